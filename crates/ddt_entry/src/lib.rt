@@ -1,0 +1,21 @@
+//! The entries of a dedup table: keys, homes and changes, as plain data.
+//!
+//! A block that is written with dedup is stored once, under a key. The key is a digest of the block's
+//! content together with its length, so it is a function of the content alone, and `KeyOf` says which.
+//! The table maps a key to its home: the block's place, the group that made it, the moment at which its
+//! count last became 1, and how many pointers share it. A home of count 0 is waiting: its place is kept
+//! until the table's log has been flushed past it. A change is what a log keeps: a new home of a key,
+//! or that the key has gone.
+//!
+//! Every crate that speaks of blocks stands on these types. Nothing here allocates.
+#![tactic(auto)]
+
+mod entry;
+mod key;
+mod sha256_key;
+mod weak_key;
+
+pub use entry::{Change, Entry, Home, changed_key};
+pub use key::{Key, KeyOf};
+pub use sha256_key::Sha256Key;
+pub use weak_key::WeakKey;
