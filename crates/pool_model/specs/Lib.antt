@@ -1,0 +1,12 @@
+pub mod Clash
+pub mod Command
+pub mod File
+pub mod Group
+pub mod Plain
+pub mod Pool
+pub mod Prune
+pub mod Run
+pub mod Space
+pub mod Stats
+pub mod Table
+pub mod Text

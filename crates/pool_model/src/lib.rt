@@ -1,0 +1,29 @@
+//! What a pool is, what its commands do, and what a report says: the definitions that every promise of
+//! the repository is made in.
+//!
+//! A pool is a plain list of pointers, one for each slot of a lane that holds a block, and its settings.
+//! A count is the length of a filter over these pointers, a statistic a sum, and a run a fold of one
+//! command after another. The definitions stand in `specs/`, in the order in which they build on each
+//! other: `Pool`, `Stats`, `Table`, `Plain`, `Command`, `Group`, `Prune`, `Space`, `Run`, `Clash`, `Text`, `File`.
+//! Nothing in them knows of pages, logs on a disk, locks or threads; the crates above keep entries,
+//! trees and counters instead, and are proved to give what is said here.
+//!
+//! The types in `src/` are the plain data that all crates speak of: commands, answers, notes of what a
+//! group did, and statistics. Those that hold a list are seen through a mirror without the list's spare
+//! room, in `specs/Plain.antt`.
+#![tactic(auto)]
+
+mod answers;
+mod commands;
+mod notes;
+mod stats;
+
+pub use answers::{Answers, CommandAnswer, FreeAnswer, ReadAnswer, WriteAnswer};
+pub use commands::{
+    Block, Command, CommandFile, CommandList, Item, ItemList, LanesGroup, Mode, Payload, PruneRule,
+    Verb,
+};
+pub use notes::{
+    BadKind, GroupNote, GroupNotes, Kind, LaneNote, LaneNotes, Outcome, PlaceList, Session,
+};
+pub use stats::{BUCKETS, Bucket, Stats};
