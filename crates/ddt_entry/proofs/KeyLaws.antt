@@ -14,6 +14,16 @@ use Rattle.std.proofs.lemmas.Bool.Decides.{nat_tests}
 use Rattle.std.specs.Str.{bytes_eq}
 use Rattle.ddt_entry.specs.declared.key.Key.{Key}
 use Rattle.ddt_entry.specs.Keys.{key_cmp, key_eq}
+use Rattle.ddt_entry.specs.contracts.key.KeyOrd.TheImpl as ord
+use Rattle.ddt_entry.specs.contracts.key.KeyPartialEq.TheImpl as partial_eq
+
+-- what the code's `cmp` of two keys answers
+pub derived_cmp : (a b : Key) → ord.ghosts.cmp a b ≡ key_cmp a b
+derived_cmp a b = refl
+
+-- what the code's `==` of two keys answers
+pub derived_eq : (a b : Key) → partial_eq.ghosts.eq a b ≡ key_eq a b
+derived_eq a b = refl
 
 pub key_cmp_total : IsTotalOrder key_cmp
 key_cmp_total =
