@@ -13,6 +13,8 @@
 mod entry;
 mod key;
 mod sha256_key;
+#[cfg(test)]
+mod tests;
 mod weak_key;
 
 pub use entry::{Change, Entry, Home, changed_key};

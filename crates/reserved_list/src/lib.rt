@@ -9,7 +9,7 @@
 //! so that what is proved here is proved of each.
 #![tactic(auto)]
 
-ghost use Rattle.std.specs.Prelude.{◌≡◌, ◌==◌, ℕ, ◌+◌, ◌<◌, ◌≤◌, [], ◌∷◌, ◌++◌, length, take, slice_get, slice_index_or, IfOk, OnOk, OnErr, IfNone, IfSome};
+ghost use Rattle.std.specs.Prelude.{◌≡◌, ◌==◌, ◌+◌, ◌-◌, ◌<◌, ◌≤◌, [], ◌∷◌, ◌++◌, length, vec_len, vec_capacity, slice_get, if◌then◌else◌, is_some, IfNone, IfSome, IsOk, OnOk, OnErr};
 ghost use Rattle.std.specs.Option.{option_copied};
 ghost use Rattle.reserved_list.specs.Listed.{Listed};
 
@@ -34,18 +34,22 @@ impl<T: Drop> Model for ReservedList<T> {
 impl<T: Drop> ReservedList<T> {
     /// The empty list. Takes no memory.
     pub fn new(alloc: Global) -> Self
-        ensures { result.items ≡ [] }
+        ensures items { result.items ≡ [] }
+        ensures room { result.spare ≡ 0 }
     {
         ReservedList {
             entries: Vec::new(alloc),
         }
     }
 
-    /// Makes room for `more` further items. The error is want of memory.
+    /// Makes room for `more` further items. The error is want of memory, and comes only where the
+    /// room was missing.
     pub fn reserve(&mut self, more: u64) -> Result<(), AllocError>
         ensures items { self.new.items ≡ self.old.items }
         ensures room { OnOk result (more ≤ self.new.spare) }
         ensures keeps { self.old.spare ≤ self.new.spare }
+        ensures enough { more ≤ self.old.spare → IsOk result }
+        ensures refused { OnErr result (self.new.spare ≡ self.old.spare) }
     {
         self.entries.reserve(more as usize)
     }
@@ -59,10 +63,11 @@ impl<T: Drop> ReservedList<T> {
         self.entries.push_reserved(value);
     }
 
-    /// Takes the item off that was pushed last, or answers `None` for the empty list.
+    /// Takes the last item off, or answers `None` for the empty list. The room of the item stays.
     pub fn pop(&mut self) -> Option<T>
         ensures last { IfSome result (λ value. self.old.items ≡ self.new.items ++ value ∷ []) }
         ensures empty { IfNone result ((self.old.items ≡ []) × (self.new.items ≡ [])) }
+        ensures room { self.new.spare ≡ (if is_some result then self.old.spare + 1 else self.old.spare) }
     {
         self.entries.pop()
     }
@@ -81,7 +86,7 @@ impl<T: Drop> ReservedList<T> {
         self.entries.is_empty()
     }
 
-    /// The item at an index counted from 0, or `None` from the length on.
+    /// The item at an index, counted from 0, or `None` from the length on.
     pub fn get(&self, at: u64) -> Option<&T>
         ensures { option_copied result ≡ slice_get self.now.items at }
     {
@@ -97,15 +102,69 @@ impl<T: Drop> ReservedList<T> {
 
     /// The list of a vector's items, with its room. Takes no memory.
     pub fn from_vec(entries: Vec<T>) -> Self
-        ensures { result.items ≡ entries.items }
+        ensures items { result.items ≡ entries.items }
+        ensures room { result.spare ≡ vec_capacity entries - vec_len entries }
     {
         ReservedList { entries }
     }
 
-    /// The items as a vector. Takes no memory.
+    /// The items as a vector, with the room. Takes no memory.
     pub fn into_vec(self) -> Vec<T>
-        ensures { result.items ≡ self.items }
+        ensures items { result.items ≡ self.items }
+        ensures room { vec_capacity result - vec_len result ≡ self.spare }
     {
         self.entries
+    }
+}
+
+#[cfg(test)]
+mod tests {
+    use super::*;
+    use std::test::Fail;
+
+    #[test]
+    fn a_list_gives_back_what_was_pushed(rt: HostRuntime) -> Result<(), Fail> {
+        let mut list = ReservedList::<u64>::new(rt.alloc());
+        assert!(rt; list.is_empty());
+        assert_eq!(rt; list.pop(), None);
+        list.reserve(3)?;
+        list.push(7);
+        list.push(8);
+        list.push(9);
+        assert!(rt; !list.is_empty());
+        assert_eq!(rt; list.len(), 3);
+        for (at, want) in [
+            (0, Some(7)),
+            (1, Some(8)),
+            (2, Some(9)),
+            (3, None),
+            (u64::MAX, None),
+        ] {
+            assert_eq!(rt; list.get(at).copied(), want, "at {at}");
+        }
+        assert_eq!(rt; list.pop(), Some(9));
+        assert!(rt; list.reserve(u64::MAX).is_err());
+        assert_eq!(rt; list.as_slice(), [7, 8].as_slice());
+        let vector = list.into_vec();
+        assert_eq!(rt; vector.as_slice(), [7, 8].as_slice());
+        assert!(rt; vector.capacity() >= 3);
+        let mut again = ReservedList::from_vec(vector);
+        assert_eq!(rt; again.pop(), Some(8));
+        assert_eq!(rt; again.pop(), Some(7));
+        assert_eq!(rt; again.pop(), None);
+        Ok(())
+    }
+
+    #[test]
+    fn a_list_holds_lists(rt: HostRuntime) -> Result<(), Fail> {
+        let mut inner = ReservedList::<u8>::new(rt.alloc());
+        inner.reserve(1)?;
+        inner.push(5);
+        let mut outer = ReservedList::<ReservedList<u8>>::new(rt.alloc());
+        outer.reserve(1)?;
+        outer.push(inner);
+        let found = outer.get(0).ok_or("the list has an item")?;
+        assert_eq!(rt; found.as_slice(), [5].as_slice());
+        Ok(())
     }
 }
