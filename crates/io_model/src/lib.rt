@@ -26,3 +26,6 @@ pub use sink::{Sink, write_whole};
 pub use source::{Failed, ReadFault, Source, read_whole};
 pub use std_sink::StdSink;
 pub use std_source::StdSource;
+
+#[cfg(test)]
+mod tests;

@@ -1,4 +1,8 @@
-ghost use Rattle.std.specs.Prelude.{◌≡◌};
+ghost use Rattle.std.specs.Prelude.{◌≡◌, ◌<◌, length, IfOk, OnOk, OnErr};
+ghost use Rattle.std.specs.Io.{WritesAtMost};
+ghost use Rattle.std.specs.Io.KnownBytes.{WriteAppends};
+ghost use Rattle.io_model.specs.Outside.{HasCause};
+ghost use Rattle.io_model.specs.Calls.{one_more};
 ghost use Rattle.io_model.specs.Streams.{Adapted};
 
 use crate::sink::Sink;
@@ -36,7 +40,15 @@ impl<W: Write> Sink for StdSink<W> {
 
     ghost faults = { λ sink. sink.faults };
 
-    fn write(&mut self, part: &[u8]) -> Result<usize, Failed> {
+    fn write(&mut self, part: &[u8]) -> Result<usize, Failed>
+        ensures bound { WritesAtMost result part.now }
+        ensures some { IfOk result (λ n. 0 < length part.now → 0 < n) }
+        ensures bytes { WriteAppends (W.contents self.old.stream) (W.contents self.new.stream)
+            result part.now }
+        ensures cause { HasCause self.old.faults self.new.faults result }
+        ensures ok { OnOk result (self.new.faults ≡ self.old.faults) }
+        ensures err { OnErr result (self.new.faults ≡ one_more self.old.faults) }
+    {
         match self.writer.write(part) {
             Ok(count) if count > 0 || part.is_empty() => Ok(count),
             _ => {

@@ -1,4 +1,8 @@
-ghost use Rattle.std.specs.Prelude.{◌≡◌};
+ghost use Rattle.std.specs.Prelude.{◌≡◌, OnOk, OnErr};
+ghost use Rattle.std.specs.Io.{ReadsAtMost};
+ghost use Rattle.std.specs.Io.KnownBytes.{ReadConsumes};
+ghost use Rattle.io_model.specs.Outside.{HasCause, KeepsBehind};
+ghost use Rattle.io_model.specs.Calls.{one_more};
 ghost use Rattle.io_model.specs.Streams.{Adapted};
 
 use crate::source::{Failed, Source};
@@ -38,7 +42,15 @@ impl<R: Read> Source for StdSource<R> {
     ghost faults = { λ source. source.faults };
 
     // A reader may write behind the count that it answers, so it is given a buffer of its own.
-    fn read(&mut self, out: &mut [u8]) -> Result<usize, Failed> {
+    fn read(&mut self, out: &mut [u8]) -> Result<usize, Failed>
+        ensures bound { ReadsAtMost result out.new }
+        ensures bytes { ReadConsumes (R.remaining self.old.stream) (R.remaining self.new.stream)
+            result out.new }
+        ensures behind { KeepsBehind result out.old out.new }
+        ensures cause { HasCause self.old.faults self.new.faults result }
+        ensures ok { OnOk result (self.new.faults ≡ self.old.faults) }
+        ensures err { OnErr result (self.new.faults ≡ one_more self.old.faults) }
+    {
         let mut buffer = [0u8; PIECE];
         let room = PIECE.min(out.len());
         match self.reader.read(&mut buffer[..room]) {

@@ -2,7 +2,7 @@ use Rattle.std.proofs.Common.{◌≡◌, ◌+◌, arith, ap, length, take, drop,
 use Rattle.std.proofs.lemmas.Grind.{common_steps}
 use Rattle.std.proofs.lemmas.List.{nil_from_length}
 use Rattle.io_model.specs.Memory.{Supply}
-use Rattle.io_model.proofs.Streams.{front_given}
+use Rattle.io_model.proofs.Bytes.{front_given}
 use Rattle.io_model.proofs.mem_source.MemSourceSource.read.Goals as goal
 
 pub returns-clause-bytes : goal.returns-clause-bytes
