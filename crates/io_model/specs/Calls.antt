@@ -11,6 +11,10 @@ pub record Calls : Type 0 where
 abbrev pub one_more : ℕ → ℕ
 one_more count = min (count + 1) (2 ^ 64 - 1)
 
+-- before the first call
+abbrev pub no_calls : List ℕ → Calls
+no_calls listed = record { listed = listed; made = 0; failed = 0 }
+
 -- the next call is one of those that are to fail
 abbrev pub NextIsListed : Calls → Type 0
 NextIsListed calls = Contains calls.listed (one_more calls.made)

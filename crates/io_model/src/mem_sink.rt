@@ -2,7 +2,7 @@ ghost use Rattle.std.specs.Prelude.{◌≡◌, ◌<◌, ◌++◌, [], length, So
 ghost use Rattle.std.specs.Io.{WritesAtMost};
 ghost use Rattle.std.specs.Io.KnownBytes.{WriteAppends};
 ghost use Rattle.io_model.specs.Outside.{HasCause};
-ghost use Rattle.io_model.specs.Calls.{NextIsListed, one_call, one_fault};
+ghost use Rattle.io_model.specs.Calls.{no_calls, NextIsListed, one_call, one_fault};
 
 use crate::planned_calls::PlannedCalls;
 use crate::sink::Sink;
@@ -29,7 +29,7 @@ impl Model for MemSink {
 impl MemSink {
     /// An empty sink. Its calls whose numbers, counted from 1, stand in `fails` fail. Takes no memory.
     pub fn new(alloc: Global, fails: Vec<u64>) -> MemSink
-        ensures { result ≡ record { written = []; calls = record { listed = fails.items; made = 0; failed = 0 } } }
+        ensures { result ≡ record { written = []; calls = no_calls fails.items } }
     {
         MemSink {
             bytes: Vec::new(alloc),

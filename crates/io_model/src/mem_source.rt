@@ -2,7 +2,7 @@ ghost use Rattle.std.specs.Prelude.{◌≡◌, ◌<◌, ◌↔◌, min, length, 
 ghost use Rattle.std.specs.Io.{ReadsAtMost};
 ghost use Rattle.std.specs.Io.KnownBytes.{ReadConsumes};
 ghost use Rattle.io_model.specs.Outside.{HasCause, KeepsBehind};
-ghost use Rattle.io_model.specs.Calls.{NextIsListed, one_call, one_fault};
+ghost use Rattle.io_model.specs.Calls.{no_calls, NextIsListed, one_call, one_fault};
 
 use crate::planned_calls::PlannedCalls;
 use crate::source::{Failed, Source};
@@ -24,7 +24,8 @@ impl Model for MemSource {
 
     ghost Value = { Supply };
 
-    ghost view = { λ source. record { left = drop source.given source.bytes.items; piece = source.piece; calls = source.calls } };
+    ghost view = { λ source.
+        record { left = drop source.given source.bytes.items; piece = source.piece; calls = source.calls } };
 
     ghost invariant = { λ source. (source.given ≤ length source.bytes.items) × (0 < source.piece) };
 }
@@ -34,7 +35,8 @@ impl MemSource {
     /// counted from 1, stand in `fails` fail. Takes no memory.
     pub fn new(bytes: Vec<u8>, piece: usize, fails: Vec<u64>) -> MemSource
         requires { 0 < piece }
-        ensures { result ≡ record { left = bytes.items; piece = piece; calls = record { listed = fails.items; made = 0; failed = 0 } } }
+        ensures { result
+            ≡ record { left = bytes.items; piece = piece; calls = no_calls fails.items } }
     {
         MemSource {
             bytes,

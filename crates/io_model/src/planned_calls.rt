@@ -1,5 +1,5 @@
 ghost use Rattle.std.specs.Prelude.{◌≡◌, ◌≤◌, ◌↔◌, IsTrue};
-ghost use Rattle.io_model.specs.Calls.{Calls, NextIsListed, one_call, one_fault};
+ghost use Rattle.io_model.specs.Calls.{Calls, no_calls, NextIsListed, one_call, one_fault};
 
 use std::marker::Model;
 
@@ -16,13 +16,14 @@ impl Model for PlannedCalls {
 
     ghost Value = { Calls };
 
-    ghost view = { λ calls. record { listed = calls.listed.items; made = calls.made; failed = calls.failed } };
+    ghost view = { λ calls.
+        record { listed = calls.listed.items; made = calls.made; failed = calls.failed } };
 }
 
 impl PlannedCalls {
     /// No call was made yet. The numbers are those of the calls that are to fail, counted from 1.
     pub(crate) fn new(listed: Vec<u64>) -> Self
-        ensures { result ≡ record { listed = listed.items; made = 0; failed = 0 } }
+        ensures { result ≡ no_calls listed.items }
     {
         PlannedCalls {
             listed,
