@@ -11,8 +11,30 @@
 //! crate looks at the bytes of a file.
 #![tactic(auto)]
 
+ghost use Rattle.std.specs.Prelude.{◌+◌, ◌≤◌};
+ghost use Rattle.io_model.specs.Outside.{ConsumesUpTo};
+ghost use Rattle.pool_model.specs.File.{file_limit};
+ghost use Rattle.cmd_file.specs.Reading.{Reads};
+
 mod cuts;
 mod fault;
+mod grammar;
 mod words;
 
+use crate::grammar::{FILE_LIMIT, parse};
 pub use fault::FileFault;
+use io_model::{Source, read_whole};
+use pool_model::CommandFile;
+use std::alloc::Global;
+
+/// Reads a source to its end, or one byte past the most that a file may have, and answers the command
+/// file that its bytes are. Where a read fails or memory runs out, some front of the bytes was read.
+pub fn read_file<S: Source>(alloc: Global, input: &mut S) -> Result<CommandFile, FileFault>
+    ensures reads { Reads (S.left input.old) (S.left input.new)
+        (S.faults input.old) (S.faults input.new) result }
+    ensures never_past { ConsumesUpTo (S.left input.old) (S.left input.new) (file_limit + 1) }
+    ensures count { S.faults input.old ≤ S.faults input.new }
+{
+    let bytes = read_whole(alloc, input, FILE_LIMIT)?;
+    parse(alloc, bytes.as_slice())
+}
