@@ -1,0 +1,3 @@
+pub mod StatLemmas
+pub mod WordLemmas
+pub mod Written

@@ -1,0 +1,26 @@
+-- The lines of the buckets that are left.
+use Rattle.std.proofs.Common.{◌≡◌, ◌≢◌, ◌+◌, ◌<◌, ℕ, List, [], ◌∷◌, ◌++◌, length, drop, slice_index_or, filter, not, ◌==◌, refl, ap, ◌∙◌, sym, arith, cond, Bool, true, false}
+use Rattle.std.proofs.lemmas.List.{drop_more}
+use Rattle.std.proofs.lemmas.Bool.Decides.{nat_tests}
+use Rattle.std.specs.List.{flat_map}
+use Rattle.pool_model.specs.declared.stats.Bucket.{Bucket}
+use Rattle.pool_model.specs.Text.{bucket_line, buckets_text}
+use Rattle.report.proofs.Written.{Splits}
+
+-- a bucket that has a key comes first
+used_first : (bucket : Bucket) (rest : List Bucket) → bucket.keys ≢ 0 → buckets_text (bucket ∷ rest) ≡ bucket_line bucket ++ buckets_text rest
+used_first bucket rest used = grind (arith, nat_tests)
+
+-- a bucket without keys comes first
+unused_first : (bucket : Bucket) (rest : List Bucket) → bucket.keys ≡ 0 → buckets_text (bucket ∷ rest) ≡ buckets_text rest
+unused_first bucket rest unused = grind (arith, nat_tests)
+
+pub buckets_text-used : (buckets : List Bucket) (i : ℕ) (default : Bucket) → i < length buckets → (slice_index_or buckets i default).keys ≢ 0
+    → Splits (buckets_text (drop i buckets)) (bucket_line (slice_index_or buckets i default)) (buckets_text (drop (i + 1) buckets))
+buckets_text-used buckets i default within used =
+    record { parts = ap buckets_text (drop_more buckets i default within) ∙ used_first (slice_index_or buckets i default) (drop (i + 1) buckets) used }
+
+pub buckets_text-unused : (buckets : List Bucket) (i : ℕ) (default : Bucket) → i < length buckets → (slice_index_or buckets i default).keys ≡ 0
+    → buckets_text (drop i buckets) ≡ buckets_text (drop (i + 1) buckets)
+buckets_text-unused buckets i default within unused =
+    ap buckets_text (drop_more buckets i default within) ∙ unused_first (slice_index_or buckets i default) (drop (i + 1) buckets) unused

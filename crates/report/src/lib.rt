@@ -1,0 +1,5 @@
+//! The report.
+#![tactic(auto)]
+
+mod stat;
+mod words;
