@@ -1,7 +1,8 @@
 -- Texts that are written one after another.
-use Rattle.std.proofs.Common.{◌≡◌, ℕ, ◌+◌, ◌≤◌, List, [], ◌++◌, Option, Result, Ok, Err, length, take, refl, sym, ap, ◌∙◌, subst, arith, append_assoc, append-nil}
+use Rattle.std.proofs.Common.{◌≡◌, ℕ, ◌+◌, ◌≤◌, ◌<◌, List, [], ◌++◌, Option, Result, Ok, Err, length, take, drop, slice_index_or, refl, sym, ap, ◌∙◌, subst, arith, append_assoc, append-nil}
 use Rattle.std.proofs.Math.Seq.{take-append-add}
-use Rattle.std.proofs.lemmas.List.{length-append, take-append-le}
+use Rattle.std.proofs.lemmas.List.{length-append, take-append-le, drop_more}
+use Rattle.std.specs.List.{flat_map}
 use Rattle.std.proofs.KnownBytes.{Appends-nil, Appends-trans}
 use Rattle.std.specs.Io.KnownBytes.{Appends}
 use Rattle.io_model.specs.Outside.{HasCause, TookFront, Rose}
@@ -29,12 +30,23 @@ Rose-since before mid now later rose = omega (arith, later, rose)
 pub Wrote-nothing : {E : Type 0} (old : Option (List ℕ)) (before : ℕ) → Wrote {T = Unit {0}} {E = E} old old before before [] (Ok tt)
 Wrote-nothing old before = record { all = Appends-nil old; front = tt; cause = record { later = omega arith; rose = tt } }
 
+-- a failure that is handed on
+pub Wrote-failed : {S T E F : Type 0} {old new : Option (List ℕ)} {before now : ℕ} {text : List ℕ} {e : E} {result : Result T F}
+    → IsErr result → Wrote {T = S} old new before now text (Err e) → Wrote old new before now text result
+Wrote-failed {result = Ok x} failed cut = cc failed
+Wrote-failed {result = Err f} failed cut = record { all = tt; front = cut.front; cause = record { later = cut.cause.later; rose = cut.cause.rose } }
+
 -- what was cut in a text was cut in each text that begins with it
-pub Wrote-cut : {S T E F : Type 0} {old new : Option (List ℕ)} {before now : ℕ} {front : List ℕ} {e : E} {result : Result T F}
-    → (rest : List ℕ) → IsErr result → Wrote {T = S} old new before now front (Err e) → Wrote old new before now (front ++ rest) result
-Wrote-cut {result = Ok x} rest failed cut = cc failed
-Wrote-cut {old = old} {new = new} {front = front} {result = Err f} rest failed cut =
-    record { all = tt; front = TookFront-of_front old new front rest cut.front; cause = record { later = cut.cause.later; rose = cut.cause.rose } }
+pub Wrote-longer : {T E : Type 0} {old new : Option (List ℕ)} {before now : ℕ} {text : List ℕ} {result : Result T E}
+    → (rest : List ℕ) → IsErr result → Wrote old new before now text result → Wrote old new before now (text ++ rest) result
+Wrote-longer {result = Ok x} rest failed cut = cc failed
+Wrote-longer {old = old} {new = new} {text = text} {result = Err f} rest failed cut =
+    record { all = tt; front = TookFront-of_front old new text rest cut.front; cause = cut.cause }
+
+-- the same text, written in another way
+pub Wrote-same : {T E : Type 0} {old new : Option (List ℕ)} {before now : ℕ} {text other : List ℕ} {result : Result T E}
+    → text ≡ other → Wrote old new before now text result → Wrote old new before now other result
+Wrote-same {old = old} {new = new} {before = before} {now = now} {result = result} same wrote = subst (λ l. Wrote old new before now l result) same wrote
 
 -- a text that was written whole, and then another one or a front of it
 pub Wrote-then : {S T E F : Type 0} {old mid new : Option (List ℕ)} {before between now : ℕ} {front rest : List ℕ} {x : S} {result : Result T F}
@@ -98,3 +110,8 @@ Remains-nothing {old = old} {now = now} none sofar = record {
 -- what is left is the same by another name
 pub Remains-same : {old now : Option (List ℕ)} {before count : ℕ} {left rest whole : List ℕ} → left ≡ rest → Remains old now before count left whole → Remains old now before count rest whole
 Remains-same {old = old} {now = now} {before = before} {count = count} {whole = whole} same sofar = subst (λ l. Remains old now before count l whole) same sofar
+
+-- what a function of each item prints of the items that are left
+pub flat_map-splits : {X : Type 0} (f : X → List ℕ) (xs : List X) (i : ℕ) (default : X) → i < length xs
+    → Splits (flat_map f (drop i xs)) (f (slice_index_or xs i default)) (flat_map f (drop (i + 1) xs))
+flat_map-splits f xs i default within = record { parts = ap (flat_map f) (drop_more xs i default within) }
