@@ -1,3 +1,5 @@
+pub mod HexLemmas
+pub mod LaneLemmas
 pub mod StatLemmas
 pub mod WordLemmas
 pub mod Written

@@ -1,5 +1,7 @@
 //! The report.
 #![tactic(auto)]
 
+mod commands;
+mod lanes;
 mod stat;
 mod words;

@@ -52,6 +52,23 @@ pub(crate) fn joined(words: &[Word]) -> ArrayString<LINE>
     line
 }
 
+/// Writes at most 10 words with a space between two and an end behind them, in one piece.
+pub(crate) fn write_words<W: Sink>(
+    out: &mut W,
+    words: &[Word],
+    end: &'static str,
+) -> Result<(), Failed>
+    requires few { length words.now ≤ 10 }
+    requires short { IsTrue (list_all is_short words.now) }
+    requires one { length end.now ≤ 1 }
+    ensures { Wrote (W.written out.old) (W.written out.new) (W.faults out.old) (W.faults out.new)
+        (joined_text words.now ++ end.now) result }
+{
+    let mut line = joined(words);
+    line.push_str(end);
+    write_whole(out, line.as_str().as_bytes())
+}
+
 /// Writes at most 10 words as a line, in one piece.
 pub(crate) fn write_line<W: Sink>(out: &mut W, words: &[Word]) -> Result<(), Failed>
     requires few { length words.now ≤ 10 }
@@ -59,7 +76,5 @@ pub(crate) fn write_line<W: Sink>(out: &mut W, words: &[Word]) -> Result<(), Fai
     ensures { Wrote (W.written out.old) (W.written out.new) (W.faults out.old) (W.faults out.new)
         (joined_text words.now ++ 10 ∷ []) result }
 {
-    let mut line = joined(words);
-    line.push_str("\n");
-    write_whole(out, line.as_str().as_bytes())
+    write_words(out, words, "\n")
 }
