@@ -1,4 +1,5 @@
 pub mod HexLemmas
+pub mod ItemLemmas
 pub mod LaneLemmas
 pub mod StatLemmas
 pub mod WordLemmas
