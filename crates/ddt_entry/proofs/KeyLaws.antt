@@ -25,6 +25,7 @@ derived_cmp a b = refl
 pub derived_eq : (a b : Key) → partial_eq.ghosts.eq a b ≡ key_eq a b
 derived_eq a b = refl
 
+-- the order of keys is total
 pub key_cmp_total : IsTotalOrder key_cmp
 key_cmp_total =
     then_total (on_total (λ (k : Key). k.digest) nat_list_cmp_total) (on_total (λ (k : Key). k.len) nat_cmp_total)
@@ -53,6 +54,7 @@ is_eq-key_cmp a b =
 pub key_eq_equiv : IsEquivalence key_eq
 key_eq_equiv = and_equiv (on_equiv (λ (k : Key). k.digest) nat_list_eq_equiv) (on_equiv (λ (k : Key). k.len) nat_eq_equiv)
 
+-- keys that are taken for one are one
 pub key_eq-true : (a b : Key) → key_eq a b ≡ true → a ≡ b
 key_eq-true a b h = exact_keys a b ((Equal-is (key_cmp a b)).0 (is_eq-key_cmp a b ∙ h))
 
@@ -70,5 +72,6 @@ unless_true false not_true = refl
 pub key_eq-false : (a b : Key) → a ≢ b → key_eq a b ≡ false
 key_eq-false a b differ = unless_true (key_eq a b) (λ e. differ (key_eq-true a b e))
 
+-- `key_eq` says exactly whether two keys are one
 pub key_eq-Decides : (a b : Key) → Decides (key_eq a b) (a ≡ b)
 key_eq-Decides a b = (key_eq-true a b, λ same. let P : Key → Type 0 = λ k. key_eq a k ≡ true in subst P same (key_eq-same a))

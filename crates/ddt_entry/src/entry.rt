@@ -33,7 +33,7 @@ pub enum Change {
 }
 
 /// The key that a change is of.
-pub fn changed_key(change: &Change) -> Key
+pub fn key_of(change: &Change) -> Key
     ensures { result ≡ key_in change.now }
 {
     match change {

@@ -17,7 +17,7 @@ mod sha256_key;
 mod tests;
 mod weak_key;
 
-pub use entry::{Change, Entry, Home, changed_key};
+pub use entry::{Change, Entry, Home, key_of};
 pub use key::{Key, KeyOf};
 pub use sha256_key::Sha256Key;
 pub use weak_key::WeakKey;

@@ -1,4 +1,4 @@
-use crate::{Change, Entry, Home, Key, KeyOf, Sha256Key, WeakKey, changed_key};
+use crate::{Change, Entry, Home, Key, KeyOf, Sha256Key, WeakKey, key_of};
 use std::alloc::{AllocError, Global};
 use std::process::Abort;
 use std::test::Fail;
@@ -85,6 +85,6 @@ fn a_change_is_of_its_key(rt: HostRuntime) {
         since: 1_700_000_000,
         count: 2,
     };
-    assert_eq!(rt; changed_key(&Change::Entry(Entry { key, home })), key);
-    assert_eq!(rt; changed_key(&Change::Gone(other)), other);
+    assert_eq!(rt; key_of(&Change::Entry(Entry { key, home })), key);
+    assert_eq!(rt; key_of(&Change::Gone(other)), other);
 }
