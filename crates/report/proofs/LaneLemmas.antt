@@ -1,9 +1,8 @@
 -- A lane's commands that are left, with the answers that are left.
-use Rattle.std.proofs.Common.{◌≡◌, ◌≢◌, ◌+◌, ◌<◌, ℕ, List, [], ◌∷◌, ◌++◌, length, drop, slice_index_or, map, ◌==◌, refl, ap, ◌∙◌, sym, arith}
+use Rattle.std.proofs.Common.{◌≡◌, ◌≢◌, ◌+◌, ◌<◌, ℕ, List, ◌∷◌, length, drop, slice_index_or, map, ap, ◌∙◌, sym}
 use Rattle.std.proofs.Common.{eq-eqb, Bool, cond}
 use Rattle.std.proofs.lemmas.Bool.{ne_eqb}
 use Rattle.std.proofs.lemmas.List.{drop_more}
-use Rattle.std.proofs.lemmas.Bool.Decides.{nat_tests}
 use Rattle.std.specs.List.{flat_map, zip}
 use Rattle.pool_model.specs.declared.commands.Command.{Command}
 use Rattle.pool_model.specs.declared.answers.CommandAnswer.{CommandAnswer}
@@ -29,9 +28,9 @@ answered_text-own lane commands i command answers others answer within here own 
     let tasks = tasks_of lane (map task_of (drop (i + 1) commands)) in
     record {
       parts =
-        ap (λ l. answered_text lane l answers) (drop_more commands i command within ∙ ap (λ (x : Command). x ∷ drop (i + 1) commands) (sym here))
-        ∙ ap (λ l. answered_text lane (command ∷ drop (i + 1) commands) l) taken
-        ∙ ap (λ b. next_text b command tasks (reply_of answer ∷ map reply_of others)) (eq-eqb command.lane lane own);
+          ap (λ l. answered_text lane l answers) (drop_more commands i command within ∙ ap (λ (x : Command). x ∷ drop (i + 1) commands) (sym here))
+          ∙ ap (λ l. answered_text lane (command ∷ drop (i + 1) commands) l) taken
+          ∙ ap (λ b. next_text b command tasks (reply_of answer ∷ map reply_of others)) (eq-eqb command.lane lane own);
     }
 
 -- a command of another lane
@@ -47,5 +46,5 @@ pub lanes-splits : (tasks : List Task) (notes : List LaneNote) (i : ℕ) (note :
     → Splits (flat_map (lane_text tasks) (map lane_told (drop i notes))) (lane_text tasks (lane_told note)) (flat_map (lane_text tasks) (map lane_told (drop (i + 1) notes)))
 lanes-splits tasks notes i note within here = record {
   parts =
-    ap (λ l. flat_map (lane_text tasks) (map lane_told l)) (drop_more notes i note within ∙ ap (λ (x : LaneNote). x ∷ drop (i + 1) notes) (sym here));
+      ap (λ l. flat_map (lane_text tasks) (map lane_told l)) (drop_more notes i note within ∙ ap (λ (x : LaneNote). x ∷ drop (i + 1) notes) (sym here));
 }

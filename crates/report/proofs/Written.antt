@@ -5,7 +5,7 @@ use Rattle.std.proofs.lemmas.List.{length-append, take-append-le, drop_more}
 use Rattle.std.specs.List.{flat_map}
 use Rattle.std.proofs.KnownBytes.{Appends-nil, Appends-trans}
 use Rattle.std.specs.Io.KnownBytes.{Appends}
-use Rattle.io_model.specs.Outside.{HasCause, TookFront, Rose}
+use Rattle.io_model.specs.Outside.{TookFront, Rose}
 use Rattle.std.specs.Prelude.{IsErr}
 use Rattle.report.specs.Writes.{Wrote}
 

@@ -1,10 +1,10 @@
 ghost use Rattle.std.specs.Prelude.{◌≡◌, ◌≤◌, ◌<◌, [], ◌∷◌, ◌++◌, length, map, nat_le, IsTrue};
-ghost use Rattle.std.specs.List.{list_all, join_with_byte};
+ghost use Rattle.std.specs.List.{join_with_byte};
 ghost use Rattle.hex.specs.Hex.{encode_lower};
 ghost use Rattle.pool_model.specs.Plain.{act_of, reply_of, task_of};
 ghost use Rattle.pool_model.specs.Text.{verb_word, write_words, free_words, reply_words, command_line};
 ghost use Rattle.report.specs.Answered.{answered_words, is_short_answer};
-ghost use Rattle.report.specs.Words.{is_short, word_text};
+ghost use Rattle.report.specs.Words.{FitsLine, word_text};
 ghost use Rattle.report.specs.Writes.{Wrote};
 
 use crate::words::{Word, write_line, write_words};
@@ -14,6 +14,7 @@ use pool_model::{Command, CommandAnswer, FreeAnswer, ReadAnswer, Verb, WriteAnsw
 
 /// How many bytes are turned into digits at a time, and how many digits they give.
 const PIECE: usize = 512;
+
 const DIGITS: usize = 1024;
 
 /// How an answer is told.
@@ -109,17 +110,16 @@ fn write_hex<W: Sink>(out: &mut W, content: &[u8]) -> Result<(), Failed>
     Ok(())
 }
 
-/// Writes a line of at least 1 and at most 10 words and a block's bytes.
+/// Writes a line of words and a block's bytes.
 fn write_block<W: Sink>(out: &mut W, words: &[Word], content: &[u8]) -> Result<(), Failed>
     requires some { 0 < length words.now }
-    requires few { length words.now ≤ 10 }
-    requires short { IsTrue (list_all is_short words.now) }
+    requires fits { FitsLine words.now }
     ensures { Wrote (W.written out.old) (W.written out.new) (W.faults out.old) (W.faults out.new)
         (join_with_byte 32 (map word_text words.now ++ encode_lower content.now ∷ []) ++ 10 ∷ []) result }
 {
     write_words(out, words, " ")?;
     write_hex(out, content)?;
-    write_words(out, &[], "\n")
+    write_line(out, &[])
 }
 
 /// Writes the line of a command and its answer.
@@ -137,7 +137,13 @@ pub(crate) fn write_command<W: Sink>(
     match reply_answered(answer) {
         Answered::Named(name) => write_line(out, &[lane, verb, slot, Word::Text(name)]),
         Answered::Damaged(sector) => {
-            let words = [lane, verb, slot, Word::Text("damaged"), Word::Number(sector)];
+            let words = [
+                lane,
+                verb,
+                slot,
+                Word::Text("damaged"),
+                Word::Number(sector),
+            ];
             write_line(out, &words)
         }
         Answered::Bytes(content) => {

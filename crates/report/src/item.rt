@@ -113,5 +113,4 @@ pub fn write_item<W: Sink>(
 /// report's definition has of the item and that pool.
 pub fn text_is_of_pool()
     ensures { TextIsOfPool }
-{
-}
+{}

@@ -1,14 +1,13 @@
-ghost use Rattle.std.specs.Prelude.{◌≡◌, ◌≤◌, ◌+◌, ◌++◌, [], ◌∷◌, length, IsTrue};
-ghost use Rattle.std.specs.List.{list_all};
-ghost use Rattle.report.specs.Words.{joined_text, is_short, word_text};
+ghost use Rattle.std.specs.Prelude.{◌≡◌, ◌≤◌, ◌<◌, ◌+◌, ◌++◌, [], ◌∷◌, length, IsTrue};
+ghost use Rattle.report.specs.Words.{FitsLine, joined_text, is_short, word_text};
 ghost use Rattle.report.specs.Writes.{Wrote};
 
 use arrayvec::ArrayString;
 use io_model::{Failed, Sink, write_whole};
 use itoa::Buffer;
 
-/// How many bytes a line has at the most, but one that has a block's bytes.
-pub(crate) const LINE: usize = 256;
+/// How many bytes a line has at the most: 10 words of 20 bytes, each with a space or the end behind it.
+const LINE: usize = 210;
 
 /// A word of a line.
 #[derive(Clone, Copy)]
@@ -33,12 +32,11 @@ fn push_word(line: &mut ArrayString<LINE>, word: &Word)
     }
 }
 
-/// At most 10 words with a space between two.
+/// Words with a space between two.
 pub(crate) fn joined(words: &[Word]) -> ArrayString<LINE>
-    requires few { length words.now ≤ 10 }
-    requires short { IsTrue (list_all is_short words.now) }
+    requires { FitsLine words.now }
     ensures text { result.bytes ≡ joined_text words.now }
-    ensures fits { length result.bytes ≤ 210 }
+    ensures fits { length result.bytes < LINE }
 {
     let mut line = ArrayString::<LINE>::new();
     let [first, others @ ..] = words else {
@@ -52,15 +50,14 @@ pub(crate) fn joined(words: &[Word]) -> ArrayString<LINE>
     line
 }
 
-/// Writes at most 10 words with a space between two and an end behind them, in one piece.
+/// Writes words with a space between two and an end behind them, in one piece.
 pub(crate) fn write_words<W: Sink>(
     out: &mut W,
     words: &[Word],
     end: &'static str,
 ) -> Result<(), Failed>
-    requires few { length words.now ≤ 10 }
-    requires short { IsTrue (list_all is_short words.now) }
-    requires one { length end.now ≤ 1 }
+    requires words { FitsLine words.now }
+    requires end { length end.now ≤ 1 }
     ensures { Wrote (W.written out.old) (W.written out.new) (W.faults out.old) (W.faults out.new)
         (joined_text words.now ++ end.now) result }
 {
@@ -69,10 +66,9 @@ pub(crate) fn write_words<W: Sink>(
     write_whole(out, line.as_str().as_bytes())
 }
 
-/// Writes at most 10 words as a line, in one piece.
+/// Writes words as a line, in one piece.
 pub(crate) fn write_line<W: Sink>(out: &mut W, words: &[Word]) -> Result<(), Failed>
-    requires few { length words.now ≤ 10 }
-    requires short { IsTrue (list_all is_short words.now) }
+    requires { FitsLine words.now }
     ensures { Wrote (W.written out.old) (W.written out.new) (W.faults out.old) (W.faults out.new)
         (joined_text words.now ++ 10 ∷ []) result }
 {

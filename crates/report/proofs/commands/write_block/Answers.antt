@@ -20,4 +20,4 @@ returns-in_err-write_hex g c =
 pub returns : goal.returns
 returns g c =
     Wrote-same (joined_text-more c.args.words.now (encode_lower c.args.content.now) c.requires.some)
-    (Wrote-then (Wrote-then c.in_ok-write_words.ensures c.in_ok-write_hex.ensures) c.write_words-2.ensures)
+    (Wrote-then (Wrote-then c.in_ok-write_words.ensures c.in_ok-write_hex.ensures) c.write_line.ensures)
