@@ -1,0 +1,4 @@
+pub mod Answered
+pub mod ItemText
+pub mod Words
+pub mod Writes
