@@ -11,6 +11,7 @@
 
 mod pointer;
 mod pool;
+mod stats;
 
 pub use pointer::{Mark, PlainPointer};
 pub use pool::PlainPool;

@@ -126,8 +126,5 @@ impl PlainPointer {
 pub fn copied_block(alloc: Global, block: &Block) -> Result<Block, AllocError>
     ensures { IfOk result (λ copy. copy.items ≡ block.now.items) }
 {
-    Ok(ReservedList::from_vec(Vec::from_slice(
-        alloc,
-        block.as_slice(),
-    )?))
+    Ok(ReservedList::from_vec(Vec::from_slice(alloc, block.as_slice())?))
 }

@@ -34,7 +34,9 @@ impl PlainPool {
     pub fn held(&self, lane: u32, slot: u32) -> Option<&PlainPointer>
         ensures { option_copied result ≡ held self.now lane slot }
     {
-        self.pointers.iter().find(|pointer| pointer.is_at(lane, slot))
+        self.pointers
+            .iter()
+            .find(|pointer| pointer.is_at(lane, slot))
     }
 
     /// The mode of a lane.
