@@ -1,3 +1,5 @@
+pub mod Openings
 pub mod Pointers
 pub mod Pools
 pub mod Small
+pub mod Tables

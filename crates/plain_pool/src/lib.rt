@@ -9,9 +9,13 @@
 //! `PlainPool` as a `Pool`.
 #![tactic(auto)]
 
+mod opening;
 mod pointer;
 mod pool;
 mod stats;
+mod table;
 
+pub use opening::{PlacedBlock, PlainKnown, PlainOpening};
 pub use pointer::{Mark, PlainPointer};
 pub use pool::PlainPool;
+pub use table::PlainTable;
