@@ -12,6 +12,7 @@
 mod opening;
 mod pointer;
 mod pool;
+mod row;
 mod stats;
 mod table;
 
