@@ -4,7 +4,7 @@ ghost use Rattle.ddt_entry.specs.Changes.{key_in};
 ghost use Rattle.ddt_entry.specs.Keys.{key_eq};
 ghost use Rattle.pool_model.specs.Table.{entry_at, change_at, found_over, found};
 
-use ddt_entry::{Change, Entry, Home, Key, changed_key};
+use ddt_entry::{Change, Entry, Home, Key, key_of};
 use std::marker::Model;
 
 /// The dedup table with its two logs, each a list sorted by key.
@@ -64,7 +64,7 @@ fn change_at<'a>(log: &'a [Change], key: &Key) -> Option<&'a Change>
 fn is_of(change: &Change, key: &Key) -> bool
     ensures { result ≡ key_eq (key_in change.now) key.now }
 {
-    changed_key(change) == *key
+    key_of(change) == *key
 }
 
 /// A change's home, or else what stands below it.
