@@ -9,6 +9,9 @@
 //! `PlainPool` as a `Pool`.
 #![tactic(auto)]
 
+mod answer;
+mod course;
+mod fresh;
 mod opening;
 mod pointer;
 mod pool;
@@ -16,6 +19,9 @@ mod row;
 mod stats;
 mod table;
 
+pub use answer::PlainAnswer;
+pub use course::PlainCourse;
+pub use fresh::PlaceQueue;
 pub use opening::{PlacedBlock, PlainKnown, PlainOpening};
 pub use pointer::{Mark, PlainPointer};
 pub use pool::PlainPool;

@@ -1,7 +1,9 @@
 ghost use Rattle.std.specs.Prelude.{◌≡◌, IfOk};
 ghost use Rattle.pool_model.specs.Pool.{is_tracked, is_plain, is_loose, since_of, is_at, tracks, comes_before};
+ghost use Rattle.pool_model.specs.Command.{home_at};
 
-use ddt_entry::Key;
+use crate::opening::PlainKnown;
+use ddt_entry::{Home, Key};
 use pool_model::Block;
 use reserved_list::ReservedList;
 use std::alloc::{AllocError, Global};
@@ -18,7 +20,7 @@ pub enum Mark {
     Loose,
 }
 
-/// What a lane's slot holds.
+/// What a lane's slot holds: a content of at least one byte, and where and how it is kept.
 #[derive(Drop)]
 pub struct PlainPointer {
     pub lane: u32,
@@ -35,9 +37,12 @@ impl Model for PlainPointer {
 
     ghost Value = { Pointer };
 
+    ghost use Rattle.std.specs.Prelude.{◌<◌, length};
     ghost use Rattle.plain_pool.specs.Pointers.{pointer_of};
 
     ghost view = { pointer_of };
+
+    ghost invariant = { λ pointer. 0 < length pointer.content.items };
 }
 
 impl PlainPointer {
@@ -104,6 +109,23 @@ impl PlainPointer {
         ensures { result ≡ comes_before self.now other.now }
     {
         self.lane < other.lane || (self.lane == other.lane && self.slot < other.slot)
+    }
+
+    /// Its home, where so many pointers share it, with its block's bytes.
+    pub fn known_at(&self, alloc: Global, count: u64) -> Result<PlainKnown, AllocError>
+        ensures { IfOk result (λ known.
+            known ≡ record { home = home_at self.now count; block = self.now.content }) }
+    {
+        let home = Home {
+            place: self.place,
+            birth: self.birth,
+            since: self.since(),
+            count,
+        };
+        Ok(PlainKnown {
+            home,
+            block: copied_block(alloc, &self.content)?,
+        })
     }
 
     /// Another pointer that says the same.
