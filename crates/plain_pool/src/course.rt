@@ -1,9 +1,10 @@
-ghost use Rattle.std.specs.Prelude.{◌≡◌, ◌∷◌, ℕ, List, ◌^◌, ◌<◌, IfOk, length};
+ghost use Rattle.std.specs.Prelude.{◌≡◌, [], ◌∷◌, ◌++◌, ℕ, List, ◌^◌, ◌<◌, IfOk, length};
 ghost use Rattle.std.specs.Option.{option_copied};
 ghost use Rattle.ddt_entry.specs.declared.key.Key.{Key};
 ghost use Rattle.pool_model.specs.Plain.{task_of, reply_of, content_of};
-ghost use Rattle.pool_model.specs.Pool.{run_length};
-ghost use Rattle.pool_model.specs.Command.{is_fault, last_tracked, known_home, uses_table, naming, replied, released, placed, write_row, after_write};
+ghost use Rattle.pool_model.specs.Pool.{run_length, keys_in};
+ghost use Rattle.pool_model.specs.Command.{is_fault, last_tracked, known_home, uses_table, naming, replied, released, placed, write_row, after_write, take_fresh, pointer_at};
+ghost use Rattle.plain_pool.specs.Pointers.{mark_of};
 ghost use Rattle.plain_pool.specs.Openings.{opening_by};
 ghost use Rattle.plain_pool.specs.Rows.{row_of, spot_of};
 ghost use Rattle.plain_pool.specs.Courses.{turn_of};
@@ -109,6 +110,142 @@ impl PlainCourse {
         let pool = self.pool.copied(alloc)?;
         self.moved_on(pool.without_pointer(command.lane, command.slot))
     }
+
+    /// The course with the write's pointer at its spot. The key is the content's.
+    fn placed(
+        self,
+        alloc: Global,
+        opening: &PlainOpening,
+        command: &Command,
+        key: Key,
+        content: Block,
+        spot: Spot,
+    ) -> Result<PlainCourse, AllocError>
+        requires { 0 < length content.items }
+        ensures { (key_of : List ℕ → Key) → key_of content.items ≡ key → IfOk result (λ next.
+            next ≡ placed (opening_by key_of opening.now) self (task_of command.now) content.items (spot_of spot)) }
+    {
+        match spot {
+            Spot::Nowhere => Ok(self),
+            Spot::AtHome { home, mark } => {
+                let pointer = pointer_at(command, key, content, home.place, home.birth, mark);
+                let pool = self.pool.copied(alloc)?.with_pointer(pointer)?;
+                self.moved_on(pool)
+            }
+            Spot::AtFresh { mark } => {
+                let place = next_fresh(self.fresh.as_slice(), command.lane);
+                let pointer = pointer_at(command, key, content, place, opening.number, mark);
+                let pool = self.pool.copied(alloc)?.with_pointer(pointer)?;
+                self.given_out(command.lane, place, run_length(&key))?
+                    .moved_on(pool)
+            }
+        }
+    }
+
+    /// The course with this place, the next of the lane, given out for a run of so many sectors.
+    fn given_out(mut self, lane: u32, place: u64, length: u64) -> Result<PlainCourse, AllocError>
+        ensures { IfOk result (λ next. next
+            ≡ record self { fresh = take_fresh lane self.fresh; given = self.given ++ (place, length) ∷ [] }) }
+    {
+        self.given.push((place, length))?;
+        self.fresh = take_fresh(self.fresh, lane);
+        Ok(self)
+    }
+
+    /// What a write answers, and where its pointer goes.
+    fn write_row<K: KeyOf>(
+        &self,
+        alloc: Global,
+        keyer: &K,
+        opening: &PlainOpening,
+        command: &Command,
+        noted: &CommandAnswer,
+        content: &[u8],
+    ) -> Result<Row, AllocError>
+        requires some { 0 < length content.now }
+        requires fits { length content.now < 2 ^ 32 }
+        requires few { length (keys_in self.now.pool) < 2 ^ 32 }
+        ensures { IfOk result (λ row. row_of row ≡ write_row (opening_by (K.key_of keyer.now) opening.now)
+            self.now (turn_of command.now noted.now) content.now) }
+    {
+        if self.pool.held(command.lane, command.slot).is_some() {
+            return Ok(TAKEN);
+        }
+        let key = keyer.key(content);
+        let known = self.known_home(alloc, opening, &key)?;
+        let keys = self.pool.keys_in(alloc)?.len() as u64;
+        let allowed = allows(keys, self.pool.quota);
+        let mode = self.pool.mode_of(command.lane);
+        Ok(mode_row(
+            mode,
+            keyer,
+            opening,
+            &known,
+            content,
+            is_fault(noted),
+            allowed,
+        ))
+    }
+
+    /// A write of a content.
+    fn after_write<K: KeyOf>(
+        self,
+        alloc: Global,
+        keyer: &K,
+        opening: &PlainOpening,
+        command: &Command,
+        noted: &CommandAnswer,
+        content: Block,
+    ) -> Result<PlainCourse, AllocError>
+        requires some { 0 < length content.items }
+        requires fits { length content.items < 2 ^ 32 }
+        requires few { length (keys_in self.pool) < 2 ^ 32 }
+        ensures { IfOk result (λ next. next ≡ after_write (opening_by (K.key_of keyer.now) opening.now)
+            self (turn_of command.now noted.now) content.items) }
+    {
+        let key = keyer.key(content.as_slice());
+        let named = uses_table(self.pool.mode_of(command.lane));
+        let row = self.write_row(alloc, keyer, opening, command, noted, content.as_slice())?;
+        self.placed(alloc, opening, command, key, content, row.spot)?
+            .replied(CommandAnswer::Write(row.answer))?
+            .naming(named, key)
+    }
+}
+
+/// The pointer of a command's slot.
+fn pointer_at(
+    command: &Command,
+    key: Key,
+    content: Block,
+    place: u64,
+    birth: u64,
+    mark: Mark,
+) -> PlainPointer
+    requires { 0 < length content.items }
+    ensures { result ≡ pointer_at (task_of command.now) key content.items place birth (mark_of mark) }
+{
+    PlainPointer {
+        lane: command.lane,
+        slot: command.slot,
+        key,
+        content,
+        place,
+        birth,
+        mark,
+    }
+}
+
+/// The slot holds a pointer already.
+const TAKEN: Row = Row {
+    answer: WriteAnswer::Taken,
+    spot: Spot::Nowhere,
+};
+
+/// How many sectors the blocks of a key take.
+fn run_length(key: &Key) -> u64
+    ensures { result ≡ run_length key.now }
+{
+    (u64::from(key.len) + 4095) / 4096
 }
 
 /// A tracked pointer of the key in the first of these pools that has one.
