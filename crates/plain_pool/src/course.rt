@@ -1,22 +1,25 @@
-ghost use Rattle.std.specs.Prelude.{◌≡◌, [], ◌∷◌, ◌++◌, ℕ, List, ◌^◌, ◌<◌, IfOk, length};
+ghost use Rattle.std.specs.Prelude.{◌≡◌, [], ◌∷◌, ◌++◌, ℕ, List, ◌^◌, ◌<◌, IfOk, length, if◌then◌else◌};
 ghost use Rattle.std.specs.Option.{option_copied};
 ghost use Rattle.ddt_entry.specs.declared.key.Key.{Key};
-ghost use Rattle.pool_model.specs.Plain.{task_of, reply_of, content_of};
-ghost use Rattle.pool_model.specs.Pool.{run_length, keys_in};
-ghost use Rattle.pool_model.specs.Command.{is_fault, last_tracked, known_home, uses_table, naming, replied, released, placed, write_row, after_write, take_fresh, pointer_at};
+ghost use Rattle.pool_model.specs.Plain.{task_of, act_of, reply_of, content_of, read, to_free};
+ghost use Rattle.pool_model.specs.Pool.{run_length, held};
+ghost use Rattle.pool_model.specs.Command.{is_fault, last_tracked, known_home, uses_table, naming, replied, released, placed, write_row, after_write, take_fresh, pointer_at, after_free, free_by_mark, after_act, after};
 ghost use Rattle.plain_pool.specs.Pointers.{mark_of};
 ghost use Rattle.plain_pool.specs.Openings.{opening_by};
 ghost use Rattle.plain_pool.specs.Rows.{row_of, spot_of};
-ghost use Rattle.plain_pool.specs.Courses.{turn_of};
+ghost use Rattle.plain_pool.specs.Courses.{turn_of, WritesContent};
 
 use crate::answer::{PlainAnswer, is_fault};
 use crate::fresh::{PlaceQueue, next_fresh, take_fresh};
 use crate::opening::{PlainKnown, PlainOpening};
-use crate::pointer::{Mark, PlainPointer};
+use crate::pointer::{Mark, PlainPointer, copied_block};
 use crate::pool::PlainPool;
 use crate::row::{Row, Spot, allows, mode_row};
 use ddt_entry::{Key, KeyOf};
-use pool_model::{Block, Command, CommandAnswer, Mode, WriteAnswer};
+use pool_model::{
+    Block, Command, CommandAnswer, FreeAnswer, Mode, Payload, ReadAnswer, Verb, WriteAnswer,
+};
+use reserved_list::ReservedList;
 use std::alloc::{AllocError, Global};
 use std::marker::Model;
 use std::mem;
@@ -164,7 +167,6 @@ impl PlainCourse {
     ) -> Result<Row, AllocError>
         requires some { 0 < length content.now }
         requires fits { length content.now < 2 ^ 32 }
-        requires few { length (keys_in self.now.pool) < 2 ^ 32 }
         ensures { IfOk result (λ row. row_of row ≡ write_row (opening_by (K.key_of keyer.now) opening.now)
             self.now (turn_of command.now noted.now) content.now) }
     {
@@ -199,7 +201,6 @@ impl PlainCourse {
     ) -> Result<PlainCourse, AllocError>
         requires some { 0 < length content.items }
         requires fits { length content.items < 2 ^ 32 }
-        requires few { length (keys_in self.pool) < 2 ^ 32 }
         ensures { IfOk result (λ next. next ≡ after_write (opening_by (K.key_of keyer.now) opening.now)
             self (turn_of command.now noted.now) content.items) }
     {
@@ -209,6 +210,126 @@ impl PlainCourse {
         self.placed(alloc, opening, command, key, content, row.spot)?
             .replied(CommandAnswer::Write(row.answer))?
             .naming(named, key)
+    }
+
+    /// A read of a slot.
+    fn after_read<K: KeyOf>(
+        self,
+        alloc: Global,
+        keyer: &K,
+        opening: &PlainOpening,
+        command: &Command,
+        noted: &CommandAnswer,
+    ) -> Result<PlainCourse, AllocError>
+        ensures { IfOk result (λ next. next ≡ after_act read (opening_by (K.key_of keyer.now) opening.now)
+            self (turn_of command.now noted.now)) }
+    {
+        let sight = match self.pool.held(command.lane, command.slot) {
+            None => ReadAnswer::Empty,
+            Some(pointer) => pointer.sight(alloc, keyer, opening, is_fault(noted))?,
+        };
+        self.replied(CommandAnswer::Read(sight))
+    }
+
+    /// A free of a slot.
+    fn after_free(
+        self,
+        alloc: Global,
+        command: &Command,
+        noted: &CommandAnswer,
+    ) -> Result<PlainCourse, AllocError>
+        ensures { IfOk result (λ next. next
+            ≡ after_free (held self.pool command.now.lane command.now.slot) self (turn_of command.now noted.now)) }
+    {
+        match self.pool.held(command.lane, command.slot) {
+            None => self.replied(CommandAnswer::Free(FreeAnswer::Empty)),
+            Some(pointer) => {
+                let mark = pointer.mark;
+                let key = pointer.key;
+                self.free_by_mark(alloc, command, noted, mark, key)
+            }
+        }
+    }
+
+    /// What a free of a pointer does, by its mark.
+    fn free_by_mark(
+        self,
+        alloc: Global,
+        command: &Command,
+        noted: &CommandAnswer,
+        mark: Mark,
+        key: Key,
+    ) -> Result<PlainCourse, AllocError>
+        ensures { IfOk result (λ next. next
+            ≡ free_by_mark (mark_of mark) self (turn_of command.now noted.now) key) }
+    {
+        match mark {
+            Mark::Plain => self
+                .released(alloc, command)?
+                .replied(CommandAnswer::Free(FreeAnswer::Freed)),
+            Mark::Tracked { .. } => self
+                .freed_by_table(alloc, command, noted, FreeAnswer::Counted)?
+                .naming(true, key),
+            Mark::Loose => self
+                .freed_by_table(alloc, command, noted, FreeAnswer::Loose)?
+                .naming(true, key),
+        }
+    }
+
+    /// A free that the table decides: nothing is done where a read of the device failed.
+    fn freed_by_table(
+        self,
+        alloc: Global,
+        command: &Command,
+        noted: &CommandAnswer,
+        answer: FreeAnswer,
+    ) -> Result<PlainCourse, AllocError>
+        ensures { IfOk result (λ next. next ≡ (if is_fault (reply_of noted.now)
+            then replied (to_free FreeAnswer.Fault) self
+            else replied (to_free answer) (released self (task_of command.now)))) }
+    {
+        if is_fault(noted) {
+            return self.replied(CommandAnswer::Free(FreeAnswer::Fault));
+        }
+        self.released(alloc, command)?
+            .replied(CommandAnswer::Free(answer))
+    }
+
+    /// One command. `noted` is the answer that was noted of it: its reads of the device failed exactly
+    /// where that is a fault, and nothing else of it is used. The error is want of memory.
+    pub fn after<K: KeyOf>(
+        self,
+        alloc: Global,
+        keyer: &K,
+        opening: &PlainOpening,
+        command: &Command,
+        noted: &CommandAnswer,
+    ) -> Result<PlainCourse, AllocError>
+        requires { WritesContent (act_of command.now.verb) }
+        ensures { IfOk result (λ next. next ≡ after (opening_by (K.key_of keyer.now) opening.now)
+            self (turn_of command.now noted.now)) }
+    {
+        match &command.verb {
+            Verb::Write(payload) => {
+                let content = content_of(alloc, payload)?;
+                self.after_write(alloc, keyer, opening, command, noted, content)
+            }
+            Verb::Read => self.after_read(alloc, keyer, opening, command, noted),
+            Verb::Free => self.after_free(alloc, command, noted),
+        }
+    }
+}
+
+/// The bytes of a payload.
+fn content_of(alloc: Global, payload: &Payload) -> Result<Block, AllocError>
+    ensures { IfOk result (λ block. block.items ≡ content_of payload.now) }
+{
+    match payload {
+        Payload::Bytes(block) => copied_block(alloc, block),
+        Payload::Repeat { byte, times } => {
+            let bytes = vec![in alloc; *byte; *times as usize]?;
+            Ok(ReservedList::from_vec(bytes))
+        }
     }
 }
 

@@ -1,10 +1,13 @@
 ghost use Rattle.std.specs.Prelude.{◌≡◌, IfOk};
 ghost use Rattle.pool_model.specs.Pool.{is_tracked, is_plain, is_loose, since_of, is_at, tracks, comes_before};
-ghost use Rattle.pool_model.specs.Command.{home_at};
+ghost use Rattle.pool_model.specs.Command.{home_at, sight_at};
+ghost use Rattle.pool_model.specs.Plain.{sight_of};
+ghost use Rattle.ddt_entry.specs.Keys.{key_eq};
+ghost use Rattle.plain_pool.specs.Openings.{opening_by};
 
-use crate::opening::PlainKnown;
-use ddt_entry::{Home, Key};
-use pool_model::Block;
+use crate::opening::{PlainKnown, PlainOpening};
+use ddt_entry::{Home, Key, KeyOf};
+use pool_model::{Block, ReadAnswer};
 use reserved_list::ReservedList;
 use std::alloc::{AllocError, Global};
 use std::marker::Model;
@@ -126,6 +129,36 @@ impl PlainPointer {
             home,
             block: copied_block(alloc, &self.content)?,
         })
+    }
+
+    /// What a read of it tells, where reads of the device have failed or not.
+    pub fn sight<K: KeyOf>(
+        &self,
+        alloc: Global,
+        keyer: &K,
+        _opening: &PlainOpening,
+        failed: bool,
+    ) -> Result<ReadAnswer, AllocError>
+        ensures { IfOk result (λ sight. sight_of sight
+            ≡ sight_at (Some self.now) (opening_by (K.key_of keyer.now) _opening.now) failed) }
+    {
+        if failed {
+            return Ok(ReadAnswer::Fault);
+        }
+        if !self.has_its_key(keyer) {
+            return Ok(ReadAnswer::Damaged(self.place));
+        }
+        Ok(ReadAnswer::Bytes(copied_block(alloc, &self.content)?))
+    }
+
+    /// Whether its content has its key. One of another length never has.
+    fn has_its_key<K: KeyOf>(&self, keyer: &K) -> bool
+        ensures { result ≡ key_eq (K.key_of keyer.now self.now.content) self.now.key }
+    {
+        if self.content.len() != u64::from(self.key.len) {
+            return false;
+        }
+        keyer.key(self.content.as_slice()) == self.key
     }
 
     /// Another pointer that says the same.
