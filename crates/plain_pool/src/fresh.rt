@@ -1,4 +1,4 @@
-ghost use Rattle.std.specs.Prelude.{◌≡◌};
+ghost use Rattle.std.specs.Prelude.{◌≡◌, slice_set};
 ghost use Rattle.pool_model.specs.Command.{first_of, rest_of, next_fresh, take_fresh};
 
 use std::marker::Model;
@@ -51,6 +51,16 @@ pub fn take_fresh(mut fresh: Vec<PlaceQueue>, lane: u32) -> Vec<PlaceQueue>
 {
     if (lane as usize) < fresh.len() {
         fresh[lane as usize].drop_first();
+    }
+    fresh
+}
+
+/// The fresh places of all lanes, with these in a lane's place.
+pub fn set_places(mut fresh: Vec<PlaceQueue>, lane: u32, queue: PlaceQueue) -> Vec<PlaceQueue>
+    ensures { result.items ≡ slice_set fresh.items lane queue }
+{
+    if (lane as usize) < fresh.len() {
+        fresh[lane as usize] = queue;
     }
     fresh
 }

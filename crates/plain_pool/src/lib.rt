@@ -12,6 +12,7 @@
 mod answer;
 mod course;
 mod fresh;
+mod group;
 mod opening;
 mod pointer;
 mod pool;
@@ -22,6 +23,7 @@ mod table;
 pub use answer::PlainAnswer;
 pub use course::PlainCourse;
 pub use fresh::PlaceQueue;
+pub use group::{LANES, after_lanes};
 pub use opening::{PlacedBlock, PlainKnown, PlainOpening};
 pub use pointer::{Mark, PlainPointer};
 pub use pool::PlainPool;
