@@ -12,8 +12,20 @@
 //! The command file is read through a source, and every report goes out through a sink.
 #![tactic(auto)]
 
+mod mem_sink;
+mod mem_source;
+mod planned_calls;
 mod sink;
 mod source;
+mod std_sink;
+mod std_source;
 
+pub use mem_sink::MemSink;
+pub use mem_source::MemSource;
 pub use sink::{Sink, write_whole};
 pub use source::{Failed, ReadFault, Source, read_whole};
+pub use std_sink::StdSink;
+pub use std_source::StdSource;
+
+#[cfg(test)]
+mod tests;

@@ -10,3 +10,8 @@ pub mod Space
 pub mod Stats
 pub mod Table
 pub mod Text
+pub mod Worked
+pub mod WorkedRuns
+pub mod WorkedTurns
+pub mod WorkedTables
+pub mod WorkedFacts

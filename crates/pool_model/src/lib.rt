@@ -17,6 +17,7 @@ mod answers;
 mod commands;
 mod notes;
 mod stats;
+mod worked;
 
 pub use answers::{Answers, CommandAnswer, FreeAnswer, ReadAnswer, WriteAnswer};
 pub use commands::{
@@ -27,3 +28,4 @@ pub use notes::{
     BadKind, GroupNote, GroupNotes, Kind, LaneNote, LaneNotes, Outcome, PlaceList, Session,
 };
 pub use stats::{BUCKETS, Bucket, Stats};
+pub use worked::{worked_facts, worked_runs, worked_tables};

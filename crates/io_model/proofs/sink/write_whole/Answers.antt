@@ -1,7 +1,7 @@
 use Rattle.std.proofs.Common.{◌++◌, take, sym, ap, ◌∙◌, arith}
 use Rattle.std.proofs.lemmas.Result.{err_from_is_err_and}
 use Rattle.std.proofs.KnownBytes.{Appends-trans}
-use Rattle.io_model.proofs.Streams.{TookFront-kept, split_moved}
+use Rattle.io_model.proofs.Bytes.{TookFront-kept, split_moved}
 use Rattle.io_model.proofs.sink.write_whole.Goals as goal
 
 pub returns-in_err-count-clause-front : goal.returns-in_err-count-clause-front

@@ -1,6 +1,6 @@
 use Rattle.std.proofs.Common.{◌+◌, ◌≤◌, take, arith, vec_len}
 use Rattle.std.proofs.lemmas.Grind.{common_steps}
-use Rattle.io_model.proofs.Streams.{ConsumesUpTo-more}
+use Rattle.io_model.proofs.Bytes.{ConsumesUpTo-more}
 use Rattle.io_model.proofs.source.read_whole.Goals as goal
 
 pub returns-in_err-extend_from_slice-clause-never_past :

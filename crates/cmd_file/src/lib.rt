@@ -1,0 +1,40 @@
+//! The reader of the command file.
+//!
+//! `read_file` reads a source to its end, or one byte past the most that a file may have, and answers
+//! the command file that the bytes are, or the line that is bad and what is wrong with it. Which bytes
+//! are which commands is said once, by `file_of` of `pool_model`. Each step of that definition is a
+//! function here, with the step for its contract: `cuts` cuts a file into lines and a line into words,
+//! `words` reads numbers and blocks, and `grammar` reads the lines that may stand in a file.
+//!
+//! The whole file is read before any of it is done, so a bad file has no effect. Want of memory is an
+//! answer of its own, and never makes a file bad. The session takes its commands from here; no other
+//! crate looks at the bytes of a file.
+#![tactic(auto)]
+
+ghost use Rattle.std.specs.Prelude.{◌+◌, ◌≤◌};
+ghost use Rattle.io_model.specs.Outside.{ConsumesUpTo};
+ghost use Rattle.pool_model.specs.File.{file_limit};
+ghost use Rattle.cmd_file.specs.Reading.{Reads};
+
+mod cuts;
+mod fault;
+mod grammar;
+mod words;
+
+use crate::grammar::{FILE_LIMIT, parse};
+pub use fault::FileFault;
+use io_model::{Source, read_whole};
+use pool_model::CommandFile;
+use std::alloc::Global;
+
+/// Reads a source to its end, or one byte past the most that a file may have, and answers the command
+/// file that its bytes are. Where a read fails or memory runs out, some front of the bytes was read.
+pub fn read_file<S: Source>(alloc: Global, input: &mut S) -> Result<CommandFile, FileFault>
+    ensures reads { Reads (S.left input.old) (S.left input.new)
+        (S.faults input.old) (S.faults input.new) result }
+    ensures never_past { ConsumesUpTo (S.left input.old) (S.left input.new) (file_limit + 1) }
+    ensures count { S.faults input.old ≤ S.faults input.new }
+{
+    let bytes = read_whole(alloc, input, FILE_LIMIT)?;
+    parse(alloc, bytes.as_slice())
+}

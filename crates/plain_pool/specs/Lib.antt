@@ -1,0 +1,6 @@
+pub mod Openings
+pub mod Pointers
+pub mod Pools
+pub mod Rows
+pub mod Small
+pub mod Tables

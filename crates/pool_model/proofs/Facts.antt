@@ -1,0 +1,52 @@
+-- The worked examples beside the runs, each computed by the checker or shown by cases.
+use Rattle.std.specs.Prelude.{◌≡◌, ℕ, ◌≤◌, true, false, List, slice_index, Option, Some, None}
+use Rattle.std.specs.Option.{option_map_or}
+use Rattle.std.proofs.Common.{refl, ap, inl, inr, rules, arith}
+use Rattle.pool_model.proofs.OnLiterals.{pool_on_literals}
+use Rattle.ddt_entry.specs.declared.entry.Home.{Home}
+use Rattle.pool_model.specs.WorkedFacts.{RefusedFiles, EdgeFile, Digests, Needs, Premise, HoldTogether, Counted, one_key, entry}
+
+pub refused_files : RefusedFiles
+unfolding pool_on_literals
+refused_files = search rules
+
+pub edge_file : EdgeFile
+unfolding pool_on_literals
+edge_file = refl
+
+pub digests : Digests
+unfolding pool_on_literals
+digests = record { of_a = refl; of_b = refl; of_c = refl }
+
+pub needs : Needs
+needs = record { writes = refl; changes = refl; full = refl; one_more = refl; one_free = refl; without_pages = refl; many_writes = refl }
+
+pub premise : Premise
+unfolding pool_on_literals
+premise = record {
+  clash = λ h. (let second : 97 ≡ 98 = ap (λ (block : List ℕ). slice_index block 1) (h.0.writes.1.0 refl) in omega arith);
+  verified = search rules;
+  one_block = search rules;
+  spoilt_block = λ h. (let first : 97 ≡ 98 = ap (λ (block : List ℕ). slice_index block 0) (h.0.waiting.0 refl) in omega arith);
+}
+
+pub hold_together : HoldTogether
+hold_together = record {
+  shared = search rules;
+  one_slot = λ h. (let e : true ≡ false = h.together.0.0.slots in cc);
+  one_place = λ h. elim (h.together.0.0.two_blocks refl) as (λ x. ⊥) [ inl e ↦ omega arith | inr e ↦ omega arith ];
+  two_places = λ h. (let e : 32 ≡ 33 = (h.together.0.0.one_home refl).place in omega arith);
+  two_moments = λ h. (let e : 9 ≡ 10 = (h.together.0.0.one_home refl).since in omega arith);
+  in_ring = λ h. (let e : 32 ≤ 31 = h.within.0.start in omega arith);
+  past_end = λ h. (let e : 2049 ≤ 2048 = h.within.0.end in omega arith);
+}
+
+pub counted : Counted
+counted = record {
+  both = record { homes = λ key. grind arith; waiting = search rules; apart = search rules };
+  one_lost = λ h. (let e : 1 ≡ 2 = ap (λ (home : Option Home). option_map_or (λ x. x.count) home 0) (h.homes one_key) in omega arith);
+  elsewhere = λ h. (let e : 32 ≡ 33 = ap (λ (home : Option Home). option_map_or (λ x. x.place) home 0) (h.homes one_key) in omega arith);
+  left_over = λ h. (let e : Some (entry 32 1).home ≡ None = h.homes one_key in cc);
+  waiting = record { homes = λ key. grind arith; waiting = search rules; apart = search rules };
+  place_taken = λ h. elim h.waiting.0.0 as (λ x. ⊥) [ inl e ↦ omega arith | inr e ↦ omega arith ];
+}

@@ -1,0 +1,6 @@
+pub mod OnLiterals
+mod Runs
+mod Turns
+mod Tables
+mod Facts
+pub mod Laws

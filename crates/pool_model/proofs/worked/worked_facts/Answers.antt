@@ -1,0 +1,13 @@
+use Rattle.pool_model.proofs.Facts.{refused_files, edge_file, digests, needs, premise, hold_together, counted}
+use Rattle.pool_model.proofs.worked.worked_facts.Goals as goal
+
+pub returns : goal.returns
+returns c = record {
+  refused_files = refused_files;
+  edge_file = edge_file;
+  digests = digests;
+  needs = needs;
+  premise = premise;
+  hold_together = hold_together;
+  counted = counted;
+}

@@ -1,0 +1,123 @@
+-- Worked examples beside the runs: files that are refused, digests, room, the premise on digests, and pools that hold together.
+use Rattle.std.specs.Prelude.{◌≡◌, ℕ, List, [], ◌∷◌, ◌++◌, replicate, codes, Ok, Err}
+use Rattle.std.specs.List.{AllByRecursion}
+use Rattle.hex.specs.Hex.{encode_lower}
+use Rattle.sha2.specs.Sha256.{sha256}
+use Rattle.ddt_entry.specs.Keys.{sha256_key, weak_key}
+use Rattle.ddt_entry.specs.declared.key.Key.{Key}
+use Rattle.ddt_entry.specs.declared.entry.Entry.{Entry}
+use Rattle.pool_model.specs.declared.commands.Mode.TheVariants.{Verify}
+use Rattle.pool_model.specs.declared.notes.BadKind.TheVariants.{Form}
+use Rattle.pool_model.specs.Pool.{Pool, Pointer, Mark, plain, tracked, loose, empty_pool, IsWellFormed}
+use Rattle.pool_model.specs.Table.{empty_table, Matches}
+use Rattle.pool_model.specs.Plain.{Part, Told, write, read, free, lanes, set_mode, stat}
+use Rattle.pool_model.specs.Space.{need, writes_in, changes_in}
+use Rattle.pool_model.specs.Group.{Standing, lane_by_lane}
+use Rattle.pool_model.specs.Run.{Ended, ended_items, first_standing}
+use Rattle.pool_model.specs.Clash.{NoClash}
+use Rattle.pool_model.specs.File.{file_of}
+use Rattle.pool_model.specs.Worked.{a, b, c, task, new, hit, lane_note, group_note, settings_note}
+use Rattle.pool_model.specs.WorkedTurns.{spoilt}
+
+-- files that say something else than a group of writes and a `stat`: empty, without the last line feed, with CR, in capitals,
+-- with an odd digit, out of a range, with a number that begins with 0, without a write, without `end`, with more behind, of another lane
+abbrev pub refused_files : List (List ℕ)
+refused_files =
+    [] ∷ codes "group 1000\n0 write 1 61\nend\nstat"
+    ∷ codes "group 1000\r\n0 write 1 61\r\nend\r\nstat\r\n"
+    ∷ codes "group 1000\n0 write 1 6A\nend\nstat\n"
+    ∷ codes "group 1000\n0 write 1 616\nend\nstat\n"
+    ∷ codes "group 1000\n0 write 1 \nend\nstat\n"
+    ∷ codes "group 1000\n0 write 65536 61\nend\nstat\n"
+    ∷ codes "group 1099511627776\n0 write 1 61\nend\nstat\n"
+    ∷ codes "group 1000\n0 write 01 61\nend\nstat\n"
+    ∷ codes "group 01000\n0 write 1 61\nend\nstat\n"
+    ∷ codes "group 1000\nend\nstat\n"
+    ∷ codes "group 1000\n0 write 1 61\nstat\n"
+    ∷ codes "group 1000\n0 write 1 61\nend\nstat\n\n"
+    ∷ codes "group 1000\n0 write 1 61\nend\nstat\nstat\n"
+    ∷ codes "group 1000\n0 write 1 61\nend\n"
+    ∷ codes "group 1000\n1 write 1 61\nend\nstat\n"
+    ∷ codes "group 1000\n0  write 1 61\nend\nstat\n"
+    ∷ []
+
+abbrev pub RefusedFiles : Type 0
+RefusedFiles = AllByRecursion (λ file. file_of file ≡ Err (record { line = 0; kind = Form })) refused_files
+
+-- the largest moment and slot, a slot 0, and hex digits of each kind
+abbrev pub EdgeFile : Type 0
+EdgeFile = file_of (codes "group 1099511627775\n0 write 65535 00ff\n0 write 0 a9\nend\nstat\n")
+    ≡ Ok (lanes 1099511627775 (task 0 65535 (write (0 ∷ 255 ∷ [])) ∷ task 0 0 (write (169 ∷ [])) ∷ []) ∷ stat ∷ [])
+
+-- published digests
+pub record Digests : Type 0 where
+  pub of_a : encode_lower (sha256 a) ≡ codes "ca978112ca1bbdcafac231b39a23dc4da786eff8147c4e72b9807785afee48bb"
+  pub of_b : encode_lower (sha256 b) ≡ codes "3e23e8160039594a33894f6564e1b1348bbd7a0088d42c4acb73eeaed59c009d"
+  pub of_c : encode_lower (sha256 c) ≡ codes "2e7d2c03a9507ae265ecf5b5356885a53393a2029d241394997265a1a25aefc6"
+
+-- what groups need: with 4 pages and with none, of 54 writes and 10 or more frees, and of one free alone; reads need nothing
+pub record Needs : Type 0 where
+  pub writes : writes_in (replicate 54 (task 0 0 (write a)) ++ replicate 10 (task 0 100 free) ++ replicate 9 (task 0 0 read)) ≡ 54
+  pub changes : changes_in (replicate 54 (task 0 0 (write a)) ++ replicate 10 (task 0 100 free) ++ replicate 9 (task 0 0 read)) ≡ 64
+  pub full : need 4 64 64 54 ≡ 2012
+  pub one_more : need 4 64 65 54 ≡ 2024
+  pub one_free : need 4 64 1 0 ≡ 402
+  pub without_pages : need 0 64 65 54 ≡ 2016
+  pub many_writes : need 4 64 1000 1000 ≡ 14190
+
+-- two blocks of one weak key, written in lane 0
+abbrev pub two_blocks : List Part
+two_blocks = lanes 1000 (task 0 1 (write (97 ∷ a)) ∷ task 0 2 (write (97 ∷ b)) ∷ []) ∷ []
+
+abbrev pub two_blocks_notes : (number : ℕ) → List Told
+two_blocks_notes number = group_note number (lane_note 0 (new ∷ hit ∷ []) (32 ∷ []) ∷ []) ∷ []
+
+abbrev pub ended_weakly : Standing → List Part → List Told → List Ended
+ended_weakly s parts notes = ended_items lane_by_lane weak_key parts notes s
+
+-- the premise fails where a lane that trusts keys writes two blocks of one key, or finds other bytes under its key; a lane that verifies asks for nothing
+pub record Premise : Type 0 where
+  pub clash : NoClash weak_key first_standing two_blocks (ended_weakly first_standing two_blocks (two_blocks_notes 2)) → ⊥
+  pub verified : NoClash weak_key first_standing (set_mode 0 Verify ∷ two_blocks) (ended_weakly first_standing (set_mode 0 Verify ∷ two_blocks) (settings_note 2 ∷ two_blocks_notes 3))
+  pub one_block : NoClash sha256_key first_standing (lanes 1000 (task 0 1 (write a) ∷ task 0 2 (write a) ∷ []) ∷ [])
+      (ended_items lane_by_lane sha256_key (lanes 1000 (task 0 1 (write a) ∷ task 0 2 (write a) ∷ []) ∷ []) (two_blocks_notes 2) first_standing)
+  pub spoilt_block : NoClash sha256_key spoilt (lanes 1000 (task 1 1 (write a) ∷ []) ∷ [])
+      (ended_items lane_by_lane sha256_key (lanes 1000 (task 1 1 (write a) ∷ []) ∷ []) (group_note 3 (lane_note 1 (new ∷ []) [] ∷ []) ∷ []) spoilt) → ⊥
+
+-- a key and pointers of it
+abbrev pub one_key : Key
+one_key = weak_key a
+
+abbrev pub pointer : (slot place : ℕ) → Mark → Pointer
+pointer slot place mark = record { lane = 0; slot = slot; key = one_key; content = a; place = place; birth = 2; mark = mark }
+
+abbrev pub pool_of : List Pointer → Pool
+pool_of pointers = record empty_pool { pointers = pointers; group = 2 }
+
+abbrev pub IsWhole : List Pointer → Type 0
+IsWhole pointers = IsWellFormed 2048 (pool_of pointers)
+
+-- pointers of one entry share its place, no others do, and each place lies between the ring and the disk's end
+pub record HoldTogether : Type 0 where
+  pub shared : IsWhole (pointer 1 32 (tracked 9) ∷ pointer 2 32 (tracked 9) ∷ pointer 3 33 plain ∷ pointer 4 2047 loose ∷ [])
+  pub one_slot : IsWhole (pointer 1 32 plain ∷ pointer 1 33 plain ∷ []) → ⊥
+  pub one_place : IsWhole (pointer 1 32 (tracked 9) ∷ pointer 2 32 loose ∷ []) → ⊥
+  pub two_places : IsWhole (pointer 1 32 (tracked 9) ∷ pointer 2 33 (tracked 9) ∷ []) → ⊥
+  pub two_moments : IsWhole (pointer 1 32 (tracked 9) ∷ pointer 2 32 (tracked 10) ∷ []) → ⊥
+  pub in_ring : IsWhole (pointer 1 31 plain ∷ []) → ⊥
+  pub past_end : IsWhole (pointer 1 2048 plain ∷ []) → ⊥
+
+abbrev pub entry : (place count : ℕ) → Entry
+entry place count = record { key = one_key; home = record { place = place; birth = 2; since = 9; count = count } }
+
+abbrev pub MatchesEntry : List Pointer → Entry → Type 0
+MatchesEntry pointers entry = Matches (pool_of pointers) (record empty_table { zap = entry ∷ [] })
+
+-- an entry counts its pointers, no more and no fewer, and one without pointers has its place for itself
+pub record Counted : Type 0 where
+  pub both : MatchesEntry (pointer 1 32 (tracked 9) ∷ pointer 2 32 (tracked 9) ∷ pointer 3 33 plain ∷ []) (entry 32 2)
+  pub one_lost : MatchesEntry (pointer 1 32 (tracked 9) ∷ pointer 2 32 (tracked 9) ∷ []) (entry 32 1) → ⊥
+  pub elsewhere : MatchesEntry (pointer 1 33 (tracked 9) ∷ []) (entry 32 1) → ⊥
+  pub left_over : MatchesEntry [] (entry 32 1) → ⊥
+  pub waiting : MatchesEntry (pointer 1 33 loose ∷ []) (entry 32 0)
+  pub place_taken : MatchesEntry (pointer 1 32 loose ∷ []) (entry 32 0) → ⊥

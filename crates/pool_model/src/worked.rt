@@ -1,0 +1,49 @@
+ghost use Rattle.pool_model.specs.WorkedRuns.{OneWrite, SharedWrite, TakenSlot, FullQuota, RoomAgain, PrunedByAge, LoosePointer, PrunedByShare, VerifiedBytes, EmptySlot, MixedLanes};
+ghost use Rattle.pool_model.specs.WorkedTurns.{WaitingHome, TwoLanes, FailedReads, SpoiltBlock, NoRoom};
+ghost use Rattle.pool_model.specs.WorkedTables.{OneChange, SwapByAge, Flushed, GoneKey, FlushedInParts, SwapWaits, SwapByKeys, LongFlush};
+ghost use Rattle.pool_model.specs.WorkedFacts.{RefusedFiles, EdgeFile, Digests, Needs, Premise, HoldTogether, Counted};
+
+/// Worked runs: for each the items, the notes that a session makes of them, and the bytes of the report.
+/// It does nothing: its clauses are the examples, so that no definition that breaks one passes a check.
+pub fn worked_runs()
+    ensures one_write { OneWrite }
+    ensures shared_write { SharedWrite }
+    ensures taken_slot { TakenSlot }
+    ensures full_quota { FullQuota }
+    ensures room_again { RoomAgain }
+    ensures pruned_by_age { PrunedByAge }
+    ensures loose_pointer { LoosePointer }
+    ensures pruned_by_share { PrunedByShare }
+    ensures verified_bytes { VerifiedBytes }
+    ensures empty_slot { EmptySlot }
+    ensures mixed_lanes { MixedLanes }
+    ensures waiting_home { WaitingHome }
+    ensures two_lanes { TwoLanes }
+    ensures failed_reads { FailedReads }
+    ensures spoilt_block { SpoiltBlock }
+    ensures no_room { NoRoom }
+{}
+
+/// Worked syncs of the dedup table: what is logged, when the logs swap, and what is flushed.
+pub fn worked_tables()
+    ensures one_change { OneChange }
+    ensures swap_by_age { SwapByAge }
+    ensures flushed { Flushed }
+    ensures gone_key { GoneKey }
+    ensures flushed_in_parts { FlushedInParts }
+    ensures swap_waits { SwapWaits }
+    ensures swap_by_keys { SwapByKeys }
+    ensures long_flush { LongFlush }
+{}
+
+/// Worked facts beside the runs: which files are refused, digests, room, the premise on digests, and which
+/// pools and tables hold together.
+pub fn worked_facts()
+    ensures refused_files { RefusedFiles }
+    ensures edge_file { EdgeFile }
+    ensures digests { Digests }
+    ensures needs { Needs }
+    ensures premise { Premise }
+    ensures hold_together { HoldTogether }
+    ensures counted { Counted }
+{}
