@@ -48,9 +48,7 @@ fn group_note(number: u64, outcome: Outcome, taken: u64, lanes: Vec<LaneNote>) -
 fn block_of(alloc: Global, byte: u8, count: usize) -> Result<CommandAnswer, AllocError> {
     let mut bytes = Vec::new(alloc);
     bytes.resize(count, byte)?;
-    Ok(CommandAnswer::Read(ReadAnswer::Bytes(
-        ReservedList::from_vec(bytes),
-    )))
+    Ok(CommandAnswer::Read(ReadAnswer::Bytes(ReservedList::from_vec(bytes))))
 }
 
 fn no_stats() -> Stats {
@@ -277,8 +275,7 @@ fn a_failed_write_leaves_the_lines_before_it(rt: HostRuntime) -> Result<(), Fail
     ];
     for (failing, want) in rows {
         let commands = vec![in alloc; command(0, 1, write_of_a()), command(0, 2, write_of_a())]?;
-        let answers = vec![
-            in alloc;
+        let answers = vec![in alloc;
             CommandAnswer::Write(WriteAnswer::New),
             CommandAnswer::Write(WriteAnswer::Hit),
         ]?;
