@@ -51,7 +51,7 @@ fn block_of(alloc: Global, byte: u8, count: usize) -> Result<CommandAnswer, Allo
     Ok(CommandAnswer::Read(ReadAnswer::Bytes(ReservedList::from_vec(bytes))))
 }
 
-fn no_stats() -> Stats {
+fn stats_of(sums: [u64; 8], used: &[(usize, u64, u64, u64)]) -> Stats {
     let mut buckets = [Bucket {
         low: 0,
         keys: 0,
@@ -63,17 +63,38 @@ fn no_stats() -> Stats {
         bucket.low = low;
         low = low.wrapping_mul(2);
     }
+    for (at, keys, allocated, referenced) in used {
+        if let Some(bucket) = buckets.get_mut(*at) {
+            bucket.keys = *keys;
+            bucket.allocated = *allocated;
+            bucket.referenced = *referenced;
+        }
+    }
+    let [
+        keys,
+        unique,
+        duplicate,
+        refs,
+        loose,
+        plain,
+        allocated,
+        referenced,
+    ] = sums;
     Stats {
-        keys: 0,
-        unique: 0,
-        duplicate: 0,
-        refs: 0,
-        loose: 0,
-        plain: 0,
-        allocated: 0,
-        referenced: 0,
+        keys,
+        unique,
+        duplicate,
+        refs,
+        loose,
+        plain,
+        allocated,
+        referenced,
         buckets,
     }
+}
+
+fn no_stats() -> Stats {
+    stats_of([0; 8], &[])
 }
 
 #[test]
@@ -192,30 +213,11 @@ fn each_group_tells_its_number_and_outcome(rt: HostRuntime) -> Result<(), Fail> 
 #[test]
 fn each_other_item_tells_the_numbers_of_the_pool(rt: HostRuntime) -> Result<(), Fail> {
     let alloc = rt.alloc();
-    let mut one_key = no_stats();
-    one_key.keys = 1;
-    one_key.unique = 1;
-    one_key.refs = 1;
-    one_key.allocated = 1;
-    one_key.referenced = 1;
-    one_key.buckets[0].keys = 1;
-    one_key.buckets[0].allocated = 1;
-    one_key.buckets[0].referenced = 1;
-    let mut two_buckets = no_stats();
-    two_buckets.keys = 3;
-    two_buckets.unique = 2;
-    two_buckets.duplicate = 1;
-    two_buckets.refs = 10;
-    two_buckets.loose = 300;
-    two_buckets.plain = 7;
-    two_buckets.allocated = 4098;
-    two_buckets.referenced = 4105;
-    two_buckets.buckets[0].keys = 2;
-    two_buckets.buckets[0].allocated = 4097;
-    two_buckets.buckets[0].referenced = 4097;
-    two_buckets.buckets[3].keys = 1;
-    two_buckets.buckets[3].allocated = 1;
-    two_buckets.buckets[3].referenced = 8;
+    let one_key = stats_of([1, 1, 0, 1, 0, 0, 1, 1], &[(0, 1, 1, 1)]);
+    let two_buckets = stats_of(
+        [3, 2, 1, 10, 300, 7, 4098, 4105],
+        &[(0, 2, 4097, 4097), (3, 1, 1, 8)],
+    );
     let of_one_key = "stat 2\nquota none\nkeys 1\nunique 1\nduplicate 0\nrefs 1\nloose 0\nplain 0\n\
         allocated 1\nreferenced 1\nbucket 1 keys 1 allocated 1 referenced 1\n";
     let of_two_buckets = "stat 4\nquota 18446744073709551615\nkeys 3\nunique 2\nduplicate 1\n\
