@@ -18,3 +18,6 @@ mod stat;
 mod words;
 
 pub use item::{text_is_of_pool, write_item};
+
+#[cfg(test)]
+mod tests;

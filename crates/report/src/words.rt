@@ -33,7 +33,7 @@ fn push_word(line: &mut ArrayString<LINE>, word: &Word)
 }
 
 /// Words with a space between two.
-pub(crate) fn joined(words: &[Word]) -> ArrayString<LINE>
+fn joined(words: &[Word]) -> ArrayString<LINE>
     requires { FitsLine words.now }
     ensures text { result.bytes ≡ joined_text words.now }
     ensures fits { length result.bytes < LINE }
