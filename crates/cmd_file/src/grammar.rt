@@ -72,7 +72,8 @@ fn is_end(text: &[u8]) -> bool
 
 /// The commands of the lines up to `end`, behind which `stat` and nothing else stands.
 fn commands_in(alloc: Global, text: &[u8]) -> Result<CommandList, FileFault>
-    ensures { Gives (λ commands. map task_of commands.items) result (tasks_in (slice_split is_line_feed text.now)) }
+    ensures { Gives (λ commands. map task_of commands.items)
+        result (tasks_in (slice_split is_line_feed text.now)) }
 {
     let mut commands = Vec::new(alloc);
     let mut rest = text;
