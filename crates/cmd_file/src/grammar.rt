@@ -127,6 +127,5 @@ pub fn parse(alloc: Global, bytes: &[u8]) -> Result<CommandFile, FileFault>
     if commands.len() > COMMAND_LIMIT {
         return Err(BAD_FILE);
     }
-    let file = file_of_group(alloc, LanesGroup { moment, commands })?;
-    Ok(file)
+    Ok(file_of_group(alloc, LanesGroup { moment, commands })?)
 }
