@@ -41,6 +41,7 @@ fn sharer<'a>(pool: &'a PlainPool, key: &Key) -> Option<&'a PlainPointer>
 
 /// A pointer of a slot of lane 0 that the table counts.
 fn counted(slot: u32, key: Key, content: Block, place: u64, birth: u64, since: u64) -> PlainPointer
+    requires { 0 < length content.items }
     ensures { result ≡ record { lane = 0; slot = slot; key = key; content = content.items; place = place; birth = birth; mark = tracked since } }
 {
     PlainPointer {

@@ -16,4 +16,4 @@ mod running;
 mod status;
 
 pub use running::run;
-pub use status::Status;
+pub use status::{Status, fault_text};

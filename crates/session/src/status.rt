@@ -1,4 +1,8 @@
+ghost use Rattle.std.specs.Prelude.{◌≡◌, ◌++◌, IfOk, string_bytes, codes, decimal};
+ghost use Rattle.session.specs.Faults.{code_of, fault_text, kind_name};
+
 use pool_model::BadKind;
+use std::alloc::{AllocError, Global};
 
 /// How a session ended.
 #[derive(Clone, Copy, Debug, PartialEq, Eq)]
@@ -15,4 +19,60 @@ pub enum Status {
     SinkFault,
     /// There was no memory.
     OutOfMemory,
+}
+
+impl Status {
+    /// The number that a program with this status ends with (docs/COMMANDS.md, "Statuses").
+    pub fn code(&self) -> u8
+        ensures { result ≡ code_of self.now }
+    {
+        match self {
+            Status::Done => 0,
+            Status::Usage => 1,
+            Status::BadFile { .. } => 2,
+            Status::SourceFault => 3,
+            Status::SinkFault => 4,
+            Status::OutOfMemory => 9,
+        }
+    }
+}
+
+/// What a program says on standard error of a status, without a line feed; nothing at `Done`
+/// (docs/COMMANDS.md, "Statuses"). The error is want of memory.
+pub fn fault_text(alloc: Global, status: &Status) -> Result<String, AllocError>
+    ensures { IfOk result (λ text. string_bytes text ≡ fault_text status.now) }
+{
+    match status {
+        Status::Done => Ok(String::new(alloc)),
+        Status::Usage => String::from_str(alloc, "usage"),
+        Status::BadFile { line, kind } => bad_file_text(alloc, *line, *kind),
+        Status::SourceFault => String::from_str(alloc, "source fault"),
+        Status::SinkFault => String::from_str(alloc, "sink fault"),
+        Status::OutOfMemory => String::from_str(alloc, "out of memory"),
+    }
+}
+
+/// Which line of a command file is bad, and why.
+fn bad_file_text(alloc: Global, line: u64, kind: BadKind) -> Result<String, AllocError>
+    ensures { IfOk result (λ text. string_bytes text ≡ codes "bad file: line " ++ decimal line ++ codes ": " ++ kind_name kind) }
+{
+    let number = line.to_string(alloc)?;
+    let mut text = String::from_str(alloc, "bad file: line ")?;
+    text.push_str(number.as_str())?;
+    text.push_str(": ")?;
+    text.push_str(kind_name(kind))?;
+    Ok(text)
+}
+
+/// What is wrong with a line, in a word.
+fn kind_name(kind: BadKind) -> &'static str
+    ensures { result.now ≡ kind_name kind }
+{
+    match kind {
+        BadKind::Size => "size",
+        BadKind::Form => "form",
+        BadKind::Range => "range",
+        BadKind::Many => "many",
+        BadKind::Open => "open",
+    }
 }

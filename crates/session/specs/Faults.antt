@@ -1,0 +1,30 @@
+-- How a status is told: by a number and by a text.
+use Rattle.std.specs.Prelude.{ℕ, List, [], ◌++◌, codes}
+use Rattle.std.specs.Fmt.{decimal}
+use Rattle.pool_model.specs.declared.notes.BadKind.{BadKind}
+use Rattle.pool_model.specs.declared.notes.BadKind.TheVariants.{Size, Form, Range, Many, Open}
+use Rattle.session.specs.declared.status.Status.{Status}
+use Rattle.session.specs.declared.status.Status.TheVariants.{Done, Usage, BadFile, SourceFault, SinkFault, OutOfMemory}
+
+abbrev pub code_of : Status → ℕ
+code_of Done = 0
+code_of Usage = 1
+code_of (BadFile line kind) = 2
+code_of SourceFault = 3
+code_of SinkFault = 4
+code_of OutOfMemory = 9
+
+abbrev pub kind_name : BadKind → List ℕ
+kind_name Size = codes "size"
+kind_name Form = codes "form"
+kind_name Range = codes "range"
+kind_name Many = codes "many"
+kind_name Open = codes "open"
+
+abbrev pub fault_text : Status → List ℕ
+fault_text Done = []
+fault_text Usage = codes "usage"
+fault_text (BadFile line kind) = codes "bad file: line " ++ decimal line ++ codes ": " ++ kind_name kind
+fault_text SourceFault = codes "source fault"
+fault_text SinkFault = codes "sink fault"
+fault_text OutOfMemory = codes "out of memory"
