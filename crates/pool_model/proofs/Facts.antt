@@ -28,6 +28,7 @@ premise = record {
   verified = search rules;
   one_block = search rules;
   spoilt_block = λ h. (let first : 97 ≡ 98 = ap (λ (block : List ℕ). slice_index block 0) (h.0.waiting.0 refl) in omega arith);
+  spoilt_pointer = λ h. (let first : 97 ≡ 98 = ap (λ (block : List ℕ). slice_index block 0) (h.0.pointers.0 refl) in omega arith);
 }
 
 pub hold_together : HoldTogether

@@ -78,14 +78,19 @@ two_blocks_notes number = group_note number (lane_note 0 (new ∷ hit ∷ []) (3
 abbrev pub ended_weakly : Standing → List Part → List Told → List Ended
 ended_weakly s parts notes = ended_items lane_by_lane weak_key parts notes s
 
--- the premise fails where a lane that trusts keys writes two blocks of one key, or finds other bytes under its key; a lane that verifies asks for nothing
+-- one write in a lane that trusts keys
+abbrev pub TrustsOneWrite : Standing → Type 0
+TrustsOneWrite s = NoClash sha256_key s (lanes 1000 (task 1 1 (write a) ∷ []) ∷ [])
+    (ended_items lane_by_lane sha256_key (lanes 1000 (task 1 1 (write a) ∷ []) ∷ []) (group_note 2 (lane_note 1 (new ∷ []) (32 ∷ []) ∷ []) ∷ []) s)
+
+-- the premise fails where a lane that trusts keys writes two blocks of one key, or finds other bytes under its key, that wait or that a pointer has; a lane that verifies asks for nothing
 pub record Premise : Type 0 where
   pub clash : NoClash weak_key first_standing two_blocks (ended_weakly first_standing two_blocks (two_blocks_notes 2)) → ⊥
   pub verified : NoClash weak_key first_standing (set_mode 0 Verify ∷ two_blocks) (ended_weakly first_standing (set_mode 0 Verify ∷ two_blocks) (settings_note 2 ∷ two_blocks_notes 3))
   pub one_block : NoClash sha256_key first_standing (lanes 1000 (task 0 1 (write a) ∷ task 0 2 (write a) ∷ []) ∷ [])
       (ended_items lane_by_lane sha256_key (lanes 1000 (task 0 1 (write a) ∷ task 0 2 (write a) ∷ []) ∷ []) (two_blocks_notes 2) first_standing)
-  pub spoilt_block : NoClash sha256_key spoilt (lanes 1000 (task 1 1 (write a) ∷ []) ∷ [])
-      (ended_items lane_by_lane sha256_key (lanes 1000 (task 1 1 (write a) ∷ []) ∷ []) (group_note 3 (lane_note 1 (new ∷ []) [] ∷ []) ∷ []) spoilt) → ⊥
+  pub spoilt_block : TrustsOneWrite (record spoilt { pool = empty_pool }) → ⊥
+  pub spoilt_pointer : TrustsOneWrite (record spoilt { table = empty_table }) → ⊥
 
 -- a key and pointers of it
 abbrev pub one_key : Key
