@@ -105,7 +105,7 @@ pool_of pointers = record empty_pool { pointers = pointers; group = 2 }
 abbrev pub IsWhole : List Pointer → Type 0
 IsWhole pointers = IsWellFormed 2048 (pool_of pointers)
 
--- pointers of one entry share its place, no others do, and each place lies between the ring and the disk's end
+-- pointers of one entry share its place, no others do, each place lies between the ring and the disk's end, and no birth is later than the last group
 pub record HoldTogether : Type 0 where
   pub shared : IsWhole (pointer 1 32 (tracked 9) ∷ pointer 2 32 (tracked 9) ∷ pointer 3 33 plain ∷ pointer 4 2047 loose ∷ [])
   pub one_slot : IsWhole (pointer 1 32 plain ∷ pointer 1 33 plain ∷ []) → ⊥
@@ -114,6 +114,7 @@ pub record HoldTogether : Type 0 where
   pub two_moments : IsWhole (pointer 1 32 (tracked 9) ∷ pointer 2 32 (tracked 10) ∷ []) → ⊥
   pub in_ring : IsWhole (pointer 1 31 plain ∷ []) → ⊥
   pub past_end : IsWhole (pointer 1 2048 plain ∷ []) → ⊥
+  pub later_born : IsWhole (record (pointer 1 32 plain) { birth = 3 } ∷ []) → ⊥
 
 abbrev pub entry : (place count : ℕ) → Entry
 entry place count = record { key = one_key; home = record { place = place; birth = 2; since = 9; count = count } }
