@@ -28,6 +28,7 @@ premise = record {
   verified = search rules;
   one_block = search rules;
   spoilt_block = λ h. (let first : 97 ≡ 98 = ap (λ (block : List ℕ). slice_index block 0) (h.0.waiting.0 refl) in omega arith);
+  spoilt_pointer = λ h. (let first : 97 ≡ 98 = ap (λ (block : List ℕ). slice_index block 0) (h.0.pointers.0 refl) in omega arith);
 }
 
 pub hold_together : HoldTogether
@@ -39,6 +40,7 @@ hold_together = record {
   two_moments = λ h. (let e : 9 ≡ 10 = (h.together.0.0.one_home refl).since in omega arith);
   in_ring = λ h. (let e : 32 ≤ 31 = h.within.0.start in omega arith);
   past_end = λ h. (let e : 2049 ≤ 2048 = h.within.0.end in omega arith);
+  later_born = λ h. (let e : 3 ≤ 2 = h.within.0.birth in omega arith);
 }
 
 pub counted : Counted

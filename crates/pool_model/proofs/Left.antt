@@ -1,7 +1,8 @@
 -- What stands after the worked groups, each computed by the checker.
-use Rattle.std.specs.Prelude.{◌≤◌}
+use Rattle.std.specs.Prelude.{◌≡◌, ◌≤◌, [], ◌∷◌}
+use Rattle.pool_model.specs.Worked.{new, hit}
 use Rattle.std.proofs.Common.{refl, inl, inr, rules, arith}
-use Rattle.pool_model.specs.WorkedLeft.{LaterHit, TakenUp, NewMoment, NoChange, QuotaFirst, OffLane, ReadsNothing, WaitsAgain, BytesKept, OldestFirst, Ordered, FreePlaces}
+use Rattle.pool_model.specs.WorkedLeft.{LaterHit, TakenUp, NewMoment, NoChange, QuotaFirst, OffLane, ReadsNothing, WaitsAgain, BytesKept, OldestFirst, PlainStays, QuotaByKeys, CutBlock, Ordered, FreePlaces, OtherNotes}
 
 pub later_hit : LaterHit
 later_hit = search rules
@@ -30,6 +31,15 @@ bytes_kept = search rules
 pub oldest_first : OldestFirst
 oldest_first = search rules
 
+pub plain_stays : PlainStays
+plain_stays = search rules
+
+pub quota_by_keys : QuotaByKeys
+quota_by_keys = search rules
+
+pub cut_block : CutBlock
+cut_block = search rules
+
 pub reads_nothing : ReadsNothing
 reads_nothing = refl
 
@@ -47,4 +57,24 @@ free_places = record {
   behind = λ h. (let e : 2049 ≤ 2048 = h.end in omega arith);
   twice = λ h. elim h.apart.0.0 as (λ x. ⊥) [ inl e ↦ omega arith | inr e ↦ omega arith ];
   apart = search rules;
+}
+
+pub other_notes : OtherNotes
+other_notes = record {
+  right = search rules;
+  elsewhere = search rules;
+  missing = λ h. h;
+  one_more = λ h. (let e = h.1 in cc);
+  number = λ h. (let e : 3 ≡ 2 = h.0.number in omega arith);
+  kind = λ h. (let e = h.0.kind in cc);
+  taken = λ h. (let e : 1 ≡ 0 = h.0.taken in omega arith);
+  cut = λ h. (let e = h.0.outcome in cc);
+  answer = λ h. (let e : new ∷ [] ≡ hit ∷ [] = h.0.answers.agrees.replies in cc);
+  second_answer = λ h. (let e : 2 ≡ 1 = h.0.answers.lanes.replies.0 in omega arith);
+  lane = λ h. (let e : 1 ∷ [] ≡ 0 ∷ [] = h.0.answers.lanes.lanes in cc);
+  idle_lane = λ h. (let e : 0 ∷ 1 ∷ [] ≡ 0 ∷ [] = h.0.answers.lanes.lanes in cc);
+  ring = λ h. (let e : 32 ≤ 31 = h.0.answers.fresh.free.0.unnamed.start in omega arith);
+  no_place = λ h. (let e : 32 ≤ 0 = h.0.answers.fresh.free.0.unnamed.start in omega arith);
+  second_place = λ h. (let e : 33 ∷ [] ≡ [] = h.0.answers.agrees.fresh.0 in cc);
+  fault = λ h. (let e : 1 ≤ 0 = h.0.answers.lanes.faults.0 in omega arith);
 }

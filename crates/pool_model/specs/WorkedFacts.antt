@@ -78,14 +78,19 @@ two_blocks_notes number = group_note number (lane_note 0 (new ∷ hit ∷ []) (3
 abbrev pub ended_weakly : Standing → List Part → List Told → List Ended
 ended_weakly s parts notes = ended_items lane_by_lane weak_key parts notes s
 
--- the premise fails where a lane that trusts keys writes two blocks of one key, or finds other bytes under its key; a lane that verifies asks for nothing
+-- one write in a lane that trusts keys
+abbrev pub TrustsOneWrite : Standing → Type 0
+TrustsOneWrite s = NoClash sha256_key s (lanes 1000 (task 1 1 (write a) ∷ []) ∷ [])
+    (ended_items lane_by_lane sha256_key (lanes 1000 (task 1 1 (write a) ∷ []) ∷ []) (group_note 2 (lane_note 1 (new ∷ []) (32 ∷ []) ∷ []) ∷ []) s)
+
+-- the premise fails where a lane that trusts keys writes two blocks of one key, or finds other bytes under its key, that wait or that a pointer has; a lane that verifies asks for nothing
 pub record Premise : Type 0 where
   pub clash : NoClash weak_key first_standing two_blocks (ended_weakly first_standing two_blocks (two_blocks_notes 2)) → ⊥
   pub verified : NoClash weak_key first_standing (set_mode 0 Verify ∷ two_blocks) (ended_weakly first_standing (set_mode 0 Verify ∷ two_blocks) (settings_note 2 ∷ two_blocks_notes 3))
   pub one_block : NoClash sha256_key first_standing (lanes 1000 (task 0 1 (write a) ∷ task 0 2 (write a) ∷ []) ∷ [])
       (ended_items lane_by_lane sha256_key (lanes 1000 (task 0 1 (write a) ∷ task 0 2 (write a) ∷ []) ∷ []) (two_blocks_notes 2) first_standing)
-  pub spoilt_block : NoClash sha256_key spoilt (lanes 1000 (task 1 1 (write a) ∷ []) ∷ [])
-      (ended_items lane_by_lane sha256_key (lanes 1000 (task 1 1 (write a) ∷ []) ∷ []) (group_note 3 (lane_note 1 (new ∷ []) [] ∷ []) ∷ []) spoilt) → ⊥
+  pub spoilt_block : TrustsOneWrite (record spoilt { pool = empty_pool }) → ⊥
+  pub spoilt_pointer : TrustsOneWrite (record spoilt { table = empty_table }) → ⊥
 
 -- a key and pointers of it
 abbrev pub one_key : Key
@@ -100,7 +105,7 @@ pool_of pointers = record empty_pool { pointers = pointers; group = 2 }
 abbrev pub IsWhole : List Pointer → Type 0
 IsWhole pointers = IsWellFormed 2048 (pool_of pointers)
 
--- pointers of one entry share its place, no others do, and each place lies between the ring and the disk's end
+-- pointers of one entry share its place, no others do, each place lies between the ring and the disk's end, and no birth is later than the last group
 pub record HoldTogether : Type 0 where
   pub shared : IsWhole (pointer 1 32 (tracked 9) ∷ pointer 2 32 (tracked 9) ∷ pointer 3 33 plain ∷ pointer 4 2047 loose ∷ [])
   pub one_slot : IsWhole (pointer 1 32 plain ∷ pointer 1 33 plain ∷ []) → ⊥
@@ -109,6 +114,7 @@ pub record HoldTogether : Type 0 where
   pub two_moments : IsWhole (pointer 1 32 (tracked 9) ∷ pointer 2 32 (tracked 10) ∷ []) → ⊥
   pub in_ring : IsWhole (pointer 1 31 plain ∷ []) → ⊥
   pub past_end : IsWhole (pointer 1 2048 plain ∷ []) → ⊥
+  pub later_born : IsWhole (record (pointer 1 32 plain) { birth = 3 } ∷ []) → ⊥
 
 abbrev pub entry : (place count : ℕ) → Entry
 entry place count = record { key = one_key; home = record { place = place; birth = 2; since = 9; count = count } }

@@ -1,5 +1,5 @@
 -- Worked examples of what stands after groups: each pointer's place, birth and moment, and the table's logs.
-use Rattle.std.specs.Prelude.{◌≡◌, ℕ, List, [], ◌∷◌, replicate, map, fold, Some}
+use Rattle.std.specs.Prelude.{◌≡◌, ℕ, ◌==◌, if◌then◌else◌, List, [], ◌∷◌, replicate, map, fold, Some}
 use Rattle.ddt_entry.specs.Keys.{weak_key}
 use Rattle.ddt_entry.specs.declared.key.Key.{Key}
 use Rattle.ddt_entry.specs.declared.entry.Entry.{Entry}
@@ -8,6 +8,8 @@ use Rattle.pool_model.specs.declared.commands.Mode.TheVariants.{Off, On, Verify}
 use Rattle.pool_model.specs.declared.commands.PruneRule.TheVariants.{Share}
 use Rattle.pool_model.specs.declared.answers.WriteAnswer.TheVariants as written
 use Rattle.pool_model.specs.declared.answers.FreeAnswer.TheVariants as freed
+use Rattle.pool_model.specs.declared.notes.Kind.TheVariants.{Prune}
+use Rattle.pool_model.specs.declared.notes.Outcome.TheVariants.{Cut}
 use Rattle.pool_model.specs.Pool.{Pointer, Mark, plain, tracked, loose, empty_pool, run_length, with_pointer}
 use Rattle.pool_model.specs.Table.{TableState, empty_table}
 use Rattle.pool_model.specs.Plain.{Act, write, read, free, Part, Reply, lanes, prune, quota, set_mode, to_write, to_free, to_read, nothing, Told}
@@ -121,6 +123,40 @@ OldestFirst = Leaves own_key first_standing
     (pointer 1 c 32 2 (tracked 1000) ∷ pointer 2 c 32 2 (tracked 1000) ∷ pointer 3 b 33 2 loose ∷ pointer 4 a 34 3 (tracked 2000) ∷ [])
     (record empty_table { active = changes.Entry (entry (own_key a) 34 3 2000 1) ∷ changes.Gone (own_key b) ∷ changes.Entry (entry (own_key c) 32 2 1000 2) ∷ []; age = 3 })
 
+-- a prune leaves a pointer outside the table as it is
+abbrev pub PlainStays : Type 0
+PlainStays = Leaves
+    own_key
+    (record first_standing { pool = record empty_pool { pointers = pointer 1 a 32 1 (tracked 1000) ∷ pointer 2 a 33 1 plain ∷ [] }; table = record empty_table { zap = entry (own_key a) 32 1 1000 1 ∷ [] } })
+    (prune 2000 (Share 100) ∷ [])
+    (prune_note 2 1 ∷ [])
+    (pointer 1 a 32 1 loose ∷ pointer 2 a 33 1 plain ∷ [])
+    (record empty_table { zap = entry (own_key a) 32 1 1000 1 ∷ []; active = changes.Gone (own_key a) ∷ []; age = 1 })
+
+-- the quota goes by keys and not by pointers
+abbrev pub QuotaByKeys : Type 0
+QuotaByKeys = Leaves
+    own_key
+    first_standing
+    (quota (Some 512) ∷ commands 1000 ((1, write a) ∷ (2, write a) ∷ (3, write b) ∷ (4, write c) ∷ []) ∷ [])
+    (settings_note 2 ∷ told 3 (new ∷ hit ∷ new ∷ to_write written.Quota ∷ []) (32 ∷ 33 ∷ 34 ∷ []) ∷ [])
+    (pointer 1 a 32 3 (tracked 1000) ∷ pointer 2 a 32 3 (tracked 1000) ∷ pointer 3 b 33 3 (tracked 1000) ∷ pointer 4 c 34 3 plain ∷ [])
+    (logged 2 (entry (own_key a) 32 3 1000 2 ∷ entry (own_key b) 33 3 1000 1 ∷ []))
+
+-- of the sector of a block that waits as many bytes count as its key says
+abbrev pub CutBlock : Type 0
+CutBlock = Leaves
+    own_key
+    (record {
+      pool = record empty_pool { modes = Verify ∷ replicate 15 On };
+      table = record empty_table { zap = []; active = changes.Entry (entry (own_key a) 40 1 1000 0) ∷ [] };
+      blocks = λ place. if place == 40 then 97 ∷ 0 ∷ 0 ∷ [] else [];
+    })
+    (commands 2000 ((1, write a) ∷ []) ∷ [])
+    (told 2 (new ∷ []) [] ∷ [])
+    (pointer 1 a 40 1 (tracked 2000) ∷ [])
+    (logged 1 (entry (own_key a) 40 1 2000 1 ∷ []))
+
 -- pointers stand by lane and then by slot, and a block of at most 4,096 bytes takes one sector
 pub record Ordered : Type 0 where
   pub pointers : (fold with_pointer empty_pool
@@ -150,3 +186,26 @@ pub record FreePlaces : Type 0 where
   pub behind : IsFreeThere 2048 → ⊥
   pub twice : AreFresh (IsFree 2048 [] first_standing) ((34, 1) ∷ (34, 1) ∷ []) → ⊥
   pub apart : AreFresh (IsFree 2048 [] first_standing) ((34, 1) ∷ (33, 1) ∷ [])
+
+-- whether these are notes of a run of one write
+abbrev pub AreNotes : List Told → Type 0
+AreNotes notes = NotesRun lane_by_lane (IsFree 2048 []) own_key (commands 1000 ((1, write a) ∷ []) ∷ []) notes first_standing
+
+-- notes that tell something else than a run are none of its notes
+pub record OtherNotes : Type 0 where
+  pub right : AreNotes (told 2 (new ∷ []) (32 ∷ []) ∷ [])
+  pub elsewhere : AreNotes (told 2 (new ∷ []) (2047 ∷ []) ∷ [])
+  pub missing : AreNotes [] → ⊥
+  pub one_more : AreNotes (told 2 (new ∷ []) (32 ∷ []) ∷ group_note 3 [] ∷ []) → ⊥
+  pub number : AreNotes (told 3 (new ∷ []) (32 ∷ []) ∷ []) → ⊥
+  pub kind : AreNotes (record (told 2 (new ∷ []) (32 ∷ [])) { kind = Prune } ∷ []) → ⊥
+  pub taken : AreNotes (record (told 2 (new ∷ []) (32 ∷ [])) { taken = 1 } ∷ []) → ⊥
+  pub cut : AreNotes (record (told 2 (new ∷ []) (32 ∷ [])) { outcome = Cut } ∷ []) → ⊥
+  pub answer : AreNotes (told 2 (hit ∷ []) (32 ∷ []) ∷ []) → ⊥
+  pub second_answer : AreNotes (told 2 (new ∷ new ∷ []) (32 ∷ []) ∷ []) → ⊥
+  pub lane : AreNotes (group_note 2 (lane_note 1 (new ∷ []) (32 ∷ []) ∷ []) ∷ []) → ⊥
+  pub idle_lane : AreNotes (group_note 2 (lane_note 0 (new ∷ []) (32 ∷ []) ∷ lane_note 1 [] [] ∷ []) ∷ []) → ⊥
+  pub ring : AreNotes (told 2 (new ∷ []) (31 ∷ []) ∷ []) → ⊥
+  pub no_place : AreNotes (told 2 (new ∷ []) [] ∷ []) → ⊥
+  pub second_place : AreNotes (told 2 (new ∷ []) (32 ∷ 33 ∷ []) ∷ []) → ⊥
+  pub fault : AreNotes (told 2 (to_write written.Fault ∷ []) [] ∷ []) → ⊥

@@ -10,9 +10,9 @@ use Rattle.pool_model.specs.declared.answers.WriteAnswer.TheVariants as written
 use Rattle.pool_model.specs.declared.answers.FreeAnswer.TheVariants as freed
 use Rattle.pool_model.specs.declared.notes.Kind.TheVariants.{Lanes}
 use Rattle.pool_model.specs.declared.notes.Outcome.TheVariants.{NoSpace}
-use Rattle.pool_model.specs.Pool.{empty_pool}
+use Rattle.pool_model.specs.Pool.{plain, empty_pool}
 use Rattle.pool_model.specs.Table.{empty_table}
-use Rattle.pool_model.specs.Plain.{write, read, free, Part, lanes, prune, stat, «import», to_write, to_free, to_read, unread, Told}
+use Rattle.pool_model.specs.Plain.{write, read, free, Part, lanes, prune, stat, «import», to_write, to_free, to_read, unread, unsound, Told}
 use Rattle.pool_model.specs.Group.{Standing, lane_by_lane}
 use Rattle.pool_model.specs.Run.{ended_items, first_standing}
 use Rattle.pool_model.specs.Text.{report}
@@ -60,20 +60,20 @@ FailedReads = IsWorkedAnew
     ∷ group_note 3 (record (lane_note 1 (to_read unread ∷ to_free freed.Fault ∷ seen a ∷ []) []) { faults = 2 } ∷ []) ∷ [])
     (codes "group 2 sealed\n0 write 1 fault\n0 write 2 new\n1 write 1 new\ngroup 3 sealed\n1 read 1 fault\n1 free 1 fault\n1 read 1 bytes 61\n")
 
--- an entry without pointers whose block went bad
+-- an entry without pointers and a pointer outside the table, whose blocks went bad
 abbrev pub spoilt : Standing
 spoilt = record {
-  pool = record empty_pool { modes = Verify ∷ replicate 15 On; quota = None; group = 2 };
+  pool = record empty_pool { pointers = record { lane = 0; slot = 5; key = sha256_key a; content = b; place = 50; birth = 2; mark = plain } ∷ []; modes = Verify ∷ replicate 15 On; quota = None; group = 2 };
   table = record empty_table { active = changes.Entry (record { key = sha256_key a; home = record { place = 40; birth = 2; since = 1000; count = 0 } }) ∷ [] };
   blocks = λ place. b;
 }
 
--- a lane that verifies reads that block and sees it; a lane that doesn't takes the place up
+-- a lane that verifies reads that block and sees it, and so does a read; a lane that doesn't takes the place up, and a free reads nothing
 abbrev pub SpoiltBlock : Type 0
 SpoiltBlock = IsWorked sha256_key spoilt
-    (lanes 2000 (task 0 1 (write a) ∷ task 1 1 (write a) ∷ task 1 1 read ∷ []) ∷ [])
-    (group_note 3 (lane_note 0 (to_write (written.Damaged 40) ∷ []) [] ∷ lane_note 1 (new ∷ seen a ∷ []) [] ∷ []) ∷ [])
-    (codes "group 3 sealed\n0 write 1 damaged 40\n1 write 1 new\n1 read 1 bytes 61\n")
+    (lanes 2000 (task 0 1 (write a) ∷ task 1 1 (write a) ∷ task 1 1 read ∷ task 0 5 read ∷ task 0 5 free ∷ []) ∷ [])
+    (group_note 3 (lane_note 0 (to_write (written.Damaged 40) ∷ to_read (unsound 50) ∷ to_free freed.Freed ∷ []) [] ∷ lane_note 1 (new ∷ seen a ∷ []) [] ∷ []) ∷ [])
+    (codes "group 3 sealed\n0 write 1 damaged 40\n0 read 5 damaged 50\n0 free 5 freed\n1 write 1 new\n1 read 1 bytes 61\n")
 
 -- a group without room takes no number
 abbrev pub NoRoom : Type 0

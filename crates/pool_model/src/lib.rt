@@ -11,6 +11,9 @@
 //! The types in `src/` are the plain data that all crates speak of: commands, answers, notes of what a
 //! group did, and statistics. Those that hold a list are seen through a mirror without the list's spare
 //! room, in `specs/Plain.antt`.
+//!
+//! The `Worked..` files beside them hold examples with their whole answers, which the functions of
+//! `src/worked.rt` promise: a check computes each anew, so that no definition that breaks one passes it.
 #![tactic(auto)]
 
 mod answers;

@@ -2,7 +2,7 @@ ghost use Rattle.pool_model.specs.WorkedRuns.{OneWrite, SharedWrite, TakenSlot, 
 ghost use Rattle.pool_model.specs.WorkedTurns.{WaitingHome, TwoLanes, FailedReads, SpoiltBlock, NoRoom};
 ghost use Rattle.pool_model.specs.WorkedTables.{OneChange, SwapByAge, Flushed, GoneKey, FlushedInParts, LimitBefore, SwapWaits, SwapByKeys, LongFlush};
 ghost use Rattle.pool_model.specs.WorkedFacts.{RefusedFiles, EdgeFile, Digests, Needs, Premise, HoldTogether, Counted};
-ghost use Rattle.pool_model.specs.WorkedLeft.{LaterHit, TakenUp, NewMoment, NoChange, QuotaFirst, OffLane, ReadsNothing, WaitsAgain, BytesKept, OldestFirst, Ordered, FreePlaces};
+ghost use Rattle.pool_model.specs.WorkedLeft.{LaterHit, TakenUp, NewMoment, NoChange, QuotaFirst, OffLane, ReadsNothing, WaitsAgain, BytesKept, OldestFirst, PlainStays, QuotaByKeys, CutBlock, Ordered, FreePlaces, OtherNotes};
 
 /// Worked runs: for each the items, the notes that a session makes of them, and the bytes of the report.
 /// It does nothing: its clauses are the examples, so that no definition that breaks one passes a check.
@@ -25,7 +25,8 @@ pub fn worked_runs()
     ensures no_room { NoRoom }
 {}
 
-/// Worked groups, with the pointers and the table that stand after them, and which places are free.
+/// Worked groups, with the pointers and the table that stand after them, which places are free, and which notes
+/// are none of a run.
 pub fn worked_groups()
     ensures later_hit { LaterHit }
     ensures taken_up { TakenUp }
@@ -37,8 +38,12 @@ pub fn worked_groups()
     ensures waits_again { WaitsAgain }
     ensures bytes_kept { BytesKept }
     ensures oldest_first { OldestFirst }
+    ensures plain_stays { PlainStays }
+    ensures quota_by_keys { QuotaByKeys }
+    ensures cut_block { CutBlock }
     ensures ordered { Ordered }
     ensures free_places { FreePlaces }
+    ensures other_notes { OtherNotes }
 {}
 
 /// Worked syncs of the dedup table: what is logged, when the logs swap, and what is flushed.

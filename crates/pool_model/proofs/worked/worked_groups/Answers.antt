@@ -1,4 +1,4 @@
-use Rattle.pool_model.proofs.Left.{later_hit, taken_up, new_moment, no_change, quota_first, off_lane, reads_nothing, waits_again, bytes_kept, oldest_first, ordered, free_places}
+use Rattle.pool_model.proofs.Left.{later_hit, taken_up, new_moment, no_change, quota_first, off_lane, reads_nothing, waits_again, bytes_kept, oldest_first, plain_stays, quota_by_keys, cut_block, ordered, free_places, other_notes}
 use Rattle.pool_model.proofs.worked.worked_groups.Goals as goal
 
 pub returns : goal.returns
@@ -13,6 +13,10 @@ returns c = record {
   waits_again = waits_again;
   bytes_kept = bytes_kept;
   oldest_first = oldest_first;
+  plain_stays = plain_stays;
+  quota_by_keys = quota_by_keys;
+  cut_block = cut_block;
   ordered = ordered;
   free_places = free_places;
+  other_notes = other_notes;
 }
