@@ -72,7 +72,8 @@ fn is_end(text: &[u8]) -> bool
 
 /// The commands of the lines up to `end`, behind which `stat` and nothing else stands.
 fn commands_in(alloc: Global, text: &[u8]) -> Result<CommandList, FileFault>
-    ensures { Gives (λ commands. map task_of commands.items) result (tasks_in (slice_split is_line_feed text.now)) }
+    ensures { Gives (λ commands. map task_of commands.items)
+        result (tasks_in (slice_split is_line_feed text.now)) }
 {
     let mut commands = Vec::new(alloc);
     let mut rest = text;
@@ -126,6 +127,5 @@ pub fn parse(alloc: Global, bytes: &[u8]) -> Result<CommandFile, FileFault>
     if commands.len() > COMMAND_LIMIT {
         return Err(BAD_FILE);
     }
-    let file = file_of_group(alloc, LanesGroup { moment, commands })?;
-    Ok(file)
+    Ok(file_of_group(alloc, LanesGroup { moment, commands })?)
 }

@@ -19,6 +19,8 @@ ghost use Rattle.cmd_file.specs.Reading.{Reads};
 mod cuts;
 mod fault;
 mod grammar;
+#[cfg(test)]
+mod tests;
 mod words;
 
 use crate::grammar::{FILE_LIMIT, parse};

@@ -1,2 +1,4 @@
 pub mod Insertions
+pub mod LastTracked
 pub mod Sums
+pub mod Turns

@@ -1,3 +1,4 @@
+pub mod Courses
 pub mod Openings
 pub mod Pointers
 pub mod Pools

@@ -9,6 +9,10 @@
 //! `PlainPool` as a `Pool`.
 #![tactic(auto)]
 
+mod answer;
+mod course;
+mod fresh;
+mod group;
 mod opening;
 mod pointer;
 mod pool;
@@ -16,6 +20,10 @@ mod row;
 mod stats;
 mod table;
 
+pub use answer::PlainAnswer;
+pub use course::PlainCourse;
+pub use fresh::PlaceQueue;
+pub use group::{LANES, after_lanes};
 pub use opening::{PlacedBlock, PlainKnown, PlainOpening};
 pub use pointer::{Mark, PlainPointer};
 pub use pool::PlainPool;

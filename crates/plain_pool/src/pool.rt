@@ -1,8 +1,8 @@
-ghost use Rattle.std.specs.Prelude.{◌≡◌, IfOk, position, filter, not, slice_get, false};
+ghost use Rattle.std.specs.Prelude.{◌≡◌, IfOk, position, find, filter, not, slice_get, false};
 ghost use Rattle.std.specs.Option.{option_copied, option_map_or};
 ghost use Rattle.std.specs.Ordering.{is_le};
 ghost use Rattle.ddt_entry.specs.Keys.{key_cmp, key_eq};
-ghost use Rattle.pool_model.specs.Pool.{held, mode_of, count_at, keys_in, with_key, insert_pointer, with_pointer, without_pointer, comes_before, is_at};
+ghost use Rattle.pool_model.specs.Pool.{held, mode_of, count_at, keys_in, with_key, insert_pointer, with_pointer, without_pointer, comes_before, is_at, tracks};
 
 use crate::pointer::PlainPointer;
 use ddt_entry::Key;
@@ -44,6 +44,13 @@ impl PlainPool {
         ensures { result ≡ mode_of self.now lane }
     {
         self.modes.get(lane as usize).copied().unwrap_or(Mode::On)
+    }
+
+    /// The first pointer that the table counts under a key.
+    pub fn first_tracked(&self, key: &Key) -> Option<&PlainPointer>
+        ensures { option_copied result ≡ find (tracks key.now) self.now.pointers }
+    {
+        self.pointers.iter().find(|pointer| pointer.tracks(key))
     }
 
     /// How many pointers the table counts under a key.

@@ -26,12 +26,12 @@ pub struct Row {
 
 /// Whether the quota, if there is one, has room for one more key at 256 bytes each.
 pub fn allows(keys: u64, quota: Option<u64>) -> bool
-    requires { keys < 2 ^ 32 }
     ensures { result ≡ allows keys quota }
 {
     match quota {
         None => true,
-        Some(limit) => 256 * (keys + 1) <= limit,
+        // 256 * (keys + 1) is at most the limit exactly here, and can't pass 64 bits.
+        Some(limit) => keys < limit / 256,
     }
 }
 

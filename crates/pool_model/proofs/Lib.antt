@@ -3,4 +3,5 @@ mod Runs
 mod Turns
 mod Tables
 mod Facts
+mod Left
 pub mod Laws

@@ -15,3 +15,4 @@ pub mod WorkedRuns
 pub mod WorkedTurns
 pub mod WorkedTables
 pub mod WorkedFacts
+pub mod WorkedLeft

@@ -20,12 +20,15 @@ use Rattle.pool_model.specs.Worked.{a, b, c, task, new, hit, lane_note, group_no
 use Rattle.pool_model.specs.WorkedTurns.{spoilt}
 
 -- files that say something else than a group of writes and a `stat`: empty, without the last line feed, with CR, in capitals,
--- with an odd digit, out of a range, with a number that begins with 0, without a write, without `end`, with more behind, of another lane
+-- with another letter, with another digit, with an odd digit, out of a range, with a number that begins with 0, without a write, without `end`, with more behind, of another lane
 abbrev pub refused_files : List (List ℕ)
 refused_files =
     [] ∷ codes "group 1000\n0 write 1 61\nend\nstat"
     ∷ codes "group 1000\r\n0 write 1 61\r\nend\r\nstat\r\n"
     ∷ codes "group 1000\n0 write 1 6A\nend\nstat\n"
+    ∷ codes "group 1000\n0 write 1 6g\nend\nstat\n"
+    ∷ codes "group 1000\n0 write : 61\nend\nstat\n"
+    ∷ codes "group 1000\n0 write / 61\nend\nstat\n"
     ∷ codes "group 1000\n0 write 1 616\nend\nstat\n"
     ∷ codes "group 1000\n0 write 1 \nend\nstat\n"
     ∷ codes "group 1000\n0 write 65536 61\nend\nstat\n"

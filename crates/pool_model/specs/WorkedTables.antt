@@ -48,6 +48,7 @@ pub record Flushed : Type 0 where
   pub set : sync_table [] swapped_entry ≡ record empty_table { zap = entry 1 1 ∷ []; age = 1 }
   pub dropped : sync_table [] swapped_waiting ≡ record empty_table { age = 1 }
   pub dropped_from_zap : sync_table [] (record swapped_waiting { zap = entry 1 2 ∷ [] }) ≡ record empty_table { age = 1 }
+  pub kept : sync_table (to 1 1 ∷ []) (record swapped_waiting { zap = entry 1 2 ∷ [] }) ≡ record empty_table { zap = entry 1 2 ∷ []; active = to 1 1 ∷ []; age = 1 }
   pub taken_up : sync_table (to 1 1 ∷ []) swapped_waiting ≡ record empty_table { active = to 1 1 ∷ []; age = 1 }
 
 -- a key that has gone hides what stands below it, and a flush drops it there
@@ -70,6 +71,11 @@ pub record FlushedInParts : Type 0 where
       ≡ record empty_table { zap = entries_from 0 74; flush = changes_from 74 6; age = 4; checkpoint = Some (key 73) }
   pub last : sync_table [] (record empty_table { zap = entries_from 0 74; flush = changes_from 74 6; age = 4; checkpoint = Some (key 73) })
       ≡ record empty_table { zap = entries_from 0 80; age = 5 }
+
+-- how much is flushed goes by the log before the group's changes
+abbrev pub LimitBefore : Type 0
+LimitBefore = sync_table (to 0 2 ∷ []) (record empty_table { flush = changes_from 0 80 })
+    ≡ record empty_table { zap = entries_from 1 74; flush = changes_from 75 5; active = to 0 2 ∷ []; age = 1; checkpoint = Some (key 74) }
 
 -- a log whose swap is due waits until the other one is flushed
 pub record SwapWaits : Type 0 where

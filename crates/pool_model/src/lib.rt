@@ -28,4 +28,4 @@ pub use notes::{
     BadKind, GroupNote, GroupNotes, Kind, LaneNote, LaneNotes, Outcome, PlaceList, Session,
 };
 pub use stats::{BUCKETS, Bucket, Stats};
-pub use worked::{worked_facts, worked_runs, worked_tables};
+pub use worked::{worked_facts, worked_groups, worked_runs, worked_tables};

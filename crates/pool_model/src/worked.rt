@@ -1,7 +1,8 @@
 ghost use Rattle.pool_model.specs.WorkedRuns.{OneWrite, SharedWrite, TakenSlot, FullQuota, RoomAgain, PrunedByAge, LoosePointer, PrunedByShare, VerifiedBytes, EmptySlot, MixedLanes};
 ghost use Rattle.pool_model.specs.WorkedTurns.{WaitingHome, TwoLanes, FailedReads, SpoiltBlock, NoRoom};
-ghost use Rattle.pool_model.specs.WorkedTables.{OneChange, SwapByAge, Flushed, GoneKey, FlushedInParts, SwapWaits, SwapByKeys, LongFlush};
+ghost use Rattle.pool_model.specs.WorkedTables.{OneChange, SwapByAge, Flushed, GoneKey, FlushedInParts, LimitBefore, SwapWaits, SwapByKeys, LongFlush};
 ghost use Rattle.pool_model.specs.WorkedFacts.{RefusedFiles, EdgeFile, Digests, Needs, Premise, HoldTogether, Counted};
+ghost use Rattle.pool_model.specs.WorkedLeft.{LaterHit, TakenUp, NewMoment, NoChange, QuotaFirst, OffLane, ReadsNothing, WaitsAgain, BytesKept, OldestFirst, Ordered, FreePlaces};
 
 /// Worked runs: for each the items, the notes that a session makes of them, and the bytes of the report.
 /// It does nothing: its clauses are the examples, so that no definition that breaks one passes a check.
@@ -24,6 +25,22 @@ pub fn worked_runs()
     ensures no_room { NoRoom }
 {}
 
+/// Worked groups, with the pointers and the table that stand after them, and which places are free.
+pub fn worked_groups()
+    ensures later_hit { LaterHit }
+    ensures taken_up { TakenUp }
+    ensures new_moment { NewMoment }
+    ensures no_change { NoChange }
+    ensures quota_first { QuotaFirst }
+    ensures off_lane { OffLane }
+    ensures reads_nothing { ReadsNothing }
+    ensures waits_again { WaitsAgain }
+    ensures bytes_kept { BytesKept }
+    ensures oldest_first { OldestFirst }
+    ensures ordered { Ordered }
+    ensures free_places { FreePlaces }
+{}
+
 /// Worked syncs of the dedup table: what is logged, when the logs swap, and what is flushed.
 pub fn worked_tables()
     ensures one_change { OneChange }
@@ -31,6 +48,7 @@ pub fn worked_tables()
     ensures flushed { Flushed }
     ensures gone_key { GoneKey }
     ensures flushed_in_parts { FlushedInParts }
+    ensures limit_before { LimitBefore }
     ensures swap_waits { SwapWaits }
     ensures swap_by_keys { SwapByKeys }
     ensures long_flush { LongFlush }

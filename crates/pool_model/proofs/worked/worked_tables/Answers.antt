@@ -1,4 +1,4 @@
-use Rattle.pool_model.proofs.Tables.{one_change, swap_by_age, flushed, gone_key, flushed_in_parts, swap_waits, swap_by_keys, long_flush}
+use Rattle.pool_model.proofs.Tables.{one_change, swap_by_age, flushed, gone_key, flushed_in_parts, limit_before, swap_waits, swap_by_keys, long_flush}
 use Rattle.pool_model.proofs.worked.worked_tables.Goals as goal
 
 pub returns : goal.returns
@@ -8,6 +8,7 @@ returns c = record {
   flushed = flushed;
   gone_key = gone_key;
   flushed_in_parts = flushed_in_parts;
+  limit_before = limit_before;
   swap_waits = swap_waits;
   swap_by_keys = swap_by_keys;
   long_flush = long_flush;

@@ -1,0 +1,18 @@
+use Rattle.pool_model.proofs.Left.{later_hit, taken_up, new_moment, no_change, quota_first, off_lane, reads_nothing, waits_again, bytes_kept, oldest_first, ordered, free_places}
+use Rattle.pool_model.proofs.worked.worked_groups.Goals as goal
+
+pub returns : goal.returns
+returns c = record {
+  later_hit = later_hit;
+  taken_up = taken_up;
+  new_moment = new_moment;
+  no_change = no_change;
+  quota_first = quota_first;
+  off_lane = off_lane;
+  reads_nothing = reads_nothing;
+  waits_again = waits_again;
+  bytes_kept = bytes_kept;
+  oldest_first = oldest_first;
+  ordered = ordered;
+  free_places = free_places;
+}
