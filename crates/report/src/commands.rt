@@ -12,10 +12,11 @@ use hex::encode_to_slice;
 use io_model::{Failed, Sink, write_whole};
 use pool_model::{Command, CommandAnswer, FreeAnswer, ReadAnswer, Verb, WriteAnswer};
 
-/// How many bytes are turned into digits at a time, and how many digits they give.
+/// How many bytes are turned into digits at a time.
 const PIECE: usize = 512;
 
-const DIGITS: usize = 1024;
+/// How many digits they give.
+const DIGITS: usize = 2 * PIECE;
 
 /// How an answer is told.
 #[derive(Clone, Copy)]
