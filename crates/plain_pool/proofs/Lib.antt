@@ -1,4 +1,5 @@
 pub mod Insertions
 pub mod LastTracked
+pub mod Shares
 pub mod Sums
 pub mod Turns

@@ -16,6 +16,7 @@ mod group;
 mod opening;
 mod pointer;
 mod pool;
+mod prune;
 mod row;
 mod stats;
 mod table;
