@@ -19,6 +19,7 @@ mod pool;
 mod prune;
 mod row;
 mod stats;
+mod sync;
 mod table;
 
 pub use answer::PlainAnswer;

@@ -61,7 +61,7 @@ fn change_at<'a>(log: &'a [Change], key: &Key) -> Option<&'a Change>
 }
 
 /// Whether a change is of this key.
-fn is_of(change: &Change, key: &Key) -> bool
+pub fn is_of(change: &Change, key: &Key) -> bool
     ensures { result ≡ key_eq (key_in change.now) key.now }
 {
     changed_key(change) == *key
