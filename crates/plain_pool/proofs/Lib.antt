@@ -1,3 +1,4 @@
+pub mod Afterwards
 pub mod Insertions
 pub mod LastTracked
 pub mod Sets

@@ -10,6 +10,7 @@
 #![tactic(auto)]
 
 mod answer;
+mod changes;
 mod course;
 mod fresh;
 mod group;
@@ -18,6 +19,7 @@ mod pointer;
 mod pool;
 mod prune;
 mod row;
+mod standing;
 mod stats;
 mod sync;
 mod table;
@@ -29,4 +31,5 @@ pub use group::{LANES, after_lanes};
 pub use opening::{PlacedBlock, PlainKnown, PlainOpening};
 pub use pointer::{Mark, PlainPointer};
 pub use pool::PlainPool;
+pub use standing::PlainStanding;
 pub use table::PlainTable;

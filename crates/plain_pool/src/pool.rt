@@ -102,6 +102,19 @@ impl PlainPool {
         }
     }
 
+    /// The pool with this group as its last.
+    pub fn in_group(self, group: u64) -> PlainPool
+        ensures { result ≡ record self { group = group } }
+    {
+        let modes = self.modes;
+        PlainPool {
+            pointers: self.pointers,
+            modes,
+            quota: self.quota,
+            group,
+        }
+    }
+
     /// Another pool that says the same.
     pub fn copied(&self, alloc: Global) -> Result<PlainPool, AllocError>
         ensures { IfOk result (λ copy. copy ≡ self.now) }
