@@ -1,11 +1,15 @@
 -- What stands after a group.
-use Rattle.std.proofs.Common.{◌≡◌, ◌==◌, ℕ, ◌+◌, ◌<◌, Bool, true, false, cond, List, [], ◌∷◌, ◌++◌, length, take, get_or, map, Option, Some, None, refl, sym, ap, ◌∙◌}
+use Rattle.std.proofs.Common.{◌≡◌, ◌==◌, ℕ, ◌+◌, ◌<◌, Bool, true, false, cond, List, [], ◌∷◌, ◌++◌, length, take, get_or, map, Option, Some, None, Result, Ok, Err, IfOk, refl, sym, ap, ◌∙◌}
 use Rattle.std.specs.List.{find, filter_map, cons_option}
 use Rattle.std.proofs.lemmas.List.{take_more}
 use Rattle.std.proofs.lemmas.List.Elements.{filter_map-append}
 use Rattle.std.specs.Option.{option_map_or, option_to_list}
-use Rattle.pool_model.specs.Pool.{Pointer}
-use Rattle.pool_model.specs.Group.{Standing, block_or}
+use Rattle.pool_model.specs.declared.commands.Command.{Command}
+use Rattle.pool_model.specs.declared.notes.LaneNote.{LaneNote}
+use Rattle.pool_model.specs.Plain.{task_of, lane_told}
+use Rattle.pool_model.specs.Command.{Opening, Course}
+use Rattle.pool_model.specs.Pool.{Pool, Pointer}
+use Rattle.pool_model.specs.Group.{Standing, block_or, course_of, fresh_of, lane_by_lane, after_lanes}
 use Rattle.plain_pool.specs.Placed.{Placed, placed_of}
 use Rattle.plain_pool.specs.Openings.{bytes_at}
 
@@ -33,3 +37,17 @@ filter_map_more h xs i d ys more o within so_far here pushed =
     ∙ ap (λ l. filter_map h (take i xs) ++ l) (sym (listed (h (get_or xs i d))))
     ∙ sym (filter_map-append h (take i xs) (get_or xs i d ∷ []))
     ∙ ap (filter_map h) (sym (take_more xs i d within))
+
+-- courses agree where their openings, pools, commands and notes are the same
+pub same_course : (o o' : Opening) (p p' : Pool) (commands commands' : List Command) (notes notes' : List LaneNote) → o ≡ o' → p ≡ p' → commands ≡ commands' → notes ≡ notes' → course_of o p (fresh_of (map lane_told notes)) (lane_by_lane (map task_of commands) (map lane_told notes)) ≡ course_of o' p' (fresh_of (map lane_told notes')) (lane_by_lane (map task_of commands') (map lane_told notes'))
+same_course o o' p p' commands commands' notes notes' opening pool list noted = λ i.
+    course_of (opening i) (pool i) (fresh_of (map lane_told (noted i))) (lane_by_lane (map task_of (list i)) (map lane_told (noted i)))
+
+-- so do what stands after two groups
+pub same_after : (o o' : Opening) (s : Standing) (k k' : Course) → o ≡ o' → k ≡ k' → after_lanes o s k ≡ after_lanes o' s k'
+same_after o o' s k k' opening course = λ i. after_lanes (opening i) s (course i)
+
+-- a value that is one thing in an `Ok` is whatever that is
+pub same_if_ok : {X T E : Type 0} (f : T → X) (r : Result T E) (a b : X) → a ≡ b → IfOk r (λ t. f t ≡ a) → IfOk r (λ t. f t ≡ b)
+same_if_ok f (Ok t) a b same is = is ∙ same
+same_if_ok f (Err e) a b same is = tt

@@ -2,7 +2,7 @@ ghost use Rattle.std.specs.Prelude.{◌≡◌, IfOk};
 ghost use Rattle.std.specs.Option.{option_copied};
 ghost use Rattle.ddt_entry.specs.Changes.{key_in};
 ghost use Rattle.ddt_entry.specs.Keys.{key_eq};
-ghost use Rattle.pool_model.specs.Table.{entry_at, change_at, found_over, found};
+ghost use Rattle.pool_model.specs.Table.{empty_table, entry_at, change_at, found_over, found};
 
 use ddt_entry::{Change, Entry, Home, Key, changed_key};
 use std::alloc::{AllocError, Global};
@@ -34,6 +34,19 @@ impl Model for PlainTable {
 }
 
 impl PlainTable {
+    /// The table that a new image has.
+    pub fn new(alloc: Global) -> PlainTable
+        ensures { result ≡ empty_table }
+    {
+        PlainTable {
+            zap: Vec::new(alloc),
+            flush: Vec::new(alloc),
+            active: Vec::new(alloc),
+            age: 0,
+            checkpoint: None,
+        }
+    }
+
     /// Another table that says the same.
     pub fn copied(&self, alloc: Global) -> Result<PlainTable, AllocError>
         ensures { IfOk result (λ copy. copy ≡ self.now) }
