@@ -4,12 +4,12 @@ use Rattle.std.specs.List.{find}
 use Rattle.std.specs.Option.{option_map_or}
 use Rattle.ddt_entry.specs.declared.key.Key.{Key}
 use Rattle.pool_model.specs.Command.{Opening}
-use Rattle.plain_pool.specs.declared.opening.PlacedBlock.{PlacedBlock}
+use Rattle.plain_pool.specs.Placed.{Placed}
 use Rattle.plain_pool.specs.declared.opening.PlainOpening.{PlainOpening}
 
 -- the bytes at a place, and none where the list doesn't name it
-abbrev pub bytes_at : List PlacedBlock → ℕ → List ℕ
-bytes_at blocks place = option_map_or (λ block. block.content.items) (find (λ block. block.place == place) blocks) []
+abbrev pub bytes_at : List Placed → ℕ → List ℕ
+bytes_at blocks place = option_map_or (λ block. block.content) (find (λ block. block.place == place) blocks) []
 
 -- the opening, where keys are made so
 abbrev pub opening_by : (List ℕ → Key) → PlainOpening → Opening

@@ -62,7 +62,7 @@ impl PlainCourse {
 
     /// The home of a key at this moment: by the pools of this group, or else by the table as the group
     /// found it.
-    fn known_home(
+    pub fn known_home(
         &self,
         alloc: Global,
         opening: &PlainOpening,

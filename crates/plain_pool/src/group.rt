@@ -1,4 +1,4 @@
-ghost use Rattle.std.specs.Prelude.{◌≡◌, ℕ, List, [], IfOk, All, map, fold, replicate};
+ghost use Rattle.std.specs.Prelude.{◌≡◌, ℕ, List, [], IfOk, All, map, fold, replicate, ◌↔◌, IsTrue};
 ghost use Rattle.pool_model.specs.Pool.{lane_count};
 ghost use Rattle.pool_model.specs.Plain.{task_of, act_of, lane_told};
 ghost use Rattle.pool_model.specs.Command.{after};
@@ -9,13 +9,10 @@ ghost use Rattle.plain_pool.specs.Courses.{WritesContent};
 use crate::course::PlainCourse;
 use crate::fresh::{PlaceQueue, set_places};
 use crate::opening::PlainOpening;
-use crate::pool::PlainPool;
+use crate::pool::{LANES, PlainPool};
 use ddt_entry::KeyOf;
-use pool_model::{Command, LaneNote};
+use pool_model::{Command, LaneNote, Payload, Verb};
 use std::alloc::{AllocError, Global};
-
-/// How many lanes there are.
-pub const LANES: usize = 16;
 
 impl PlainCourse {
     /// Before the first command.
@@ -57,6 +54,25 @@ impl PlainCourse {
             }
         }
         Ok(course)
+    }
+}
+
+/// Whether each content that these commands write has 1 to 2^32 - 1 bytes.
+pub fn writes_contents(commands: &[Command]) -> bool
+    ensures { IsTrue result ↔ All (λ command. WritesContent (act_of command.verb)) commands.now }
+{
+    commands.iter().all(|command| writes_content(&command.verb))
+}
+
+/// Whether the content that a command writes, if it does, has 1 to 2^32 - 1 bytes.
+fn writes_content(verb: &Verb) -> bool
+    ensures { IsTrue result ↔ WritesContent (act_of verb.now) }
+{
+    match verb {
+        Verb::Write(Payload::Bytes(block)) => !block.is_empty()
+            && block.len() <= u64::from(u32::MAX),
+        Verb::Write(Payload::Repeat { times, .. }) => *times > 0,
+        Verb::Read | Verb::Free => true,
     }
 }
 

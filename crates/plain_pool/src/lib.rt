@@ -10,21 +10,26 @@
 #![tactic(auto)]
 
 mod answer;
+mod changes;
 mod course;
 mod fresh;
 mod group;
 mod opening;
 mod pointer;
 mod pool;
+mod prune;
 mod row;
+mod standing;
 mod stats;
+mod sync;
 mod table;
 
 pub use answer::PlainAnswer;
 pub use course::PlainCourse;
 pub use fresh::PlaceQueue;
-pub use group::{LANES, after_lanes};
+pub use group::{after_lanes, writes_contents};
 pub use opening::{PlacedBlock, PlainKnown, PlainOpening};
 pub use pointer::{Mark, PlainPointer};
-pub use pool::PlainPool;
+pub use pool::{LANES, PlainPool};
+pub use standing::PlainStanding;
 pub use table::PlainTable;

@@ -21,6 +21,26 @@ pub struct PlacedBlock {
     pub content: Block,
 }
 
+impl Model for PlacedBlock {
+    ghost use Rattle.plain_pool.specs.Placed.{Placed};
+
+    ghost Value = { Placed };
+
+    ghost view = { λ block. record { place = block.place; content = block.content.items } };
+}
+
+impl PlacedBlock {
+    /// Another block that says the same.
+    fn copied(&self, alloc: Global) -> Result<PlacedBlock, AllocError>
+        ensures { IfOk result (λ copy. copy ≡ self.now) }
+    {
+        Ok(PlacedBlock {
+            place: self.place,
+            content: copied_block(alloc, &self.content)?,
+        })
+    }
+}
+
 /// What a group finds when it opens: the table, the bytes at the places that are named, the group's
 /// number and its moment in seconds.
 #[derive(Drop)]
@@ -61,6 +81,17 @@ impl PlainOpening {
             block: front_of(alloc, bytes, key.len as usize)?,
         }))
     }
+}
+
+/// Other blocks that say the same.
+pub fn copied_blocks(alloc: Global, blocks: &[PlacedBlock]) -> Result<Vec<PlacedBlock>, AllocError>
+    ensures { IfOk result (λ copies. copies.items ≡ blocks.now) }
+{
+    let mut copies = Vec::new(alloc);
+    for block in blocks {
+        copies.push(block.copied(alloc)?)?;
+    }
+    Ok(copies)
 }
 
 /// The bytes at a place, and none where the list doesn't name it.

@@ -4,8 +4,9 @@ ghost use Rattle.pool_model.specs.Command.{home_at, sight_at};
 ghost use Rattle.pool_model.specs.Plain.{sight_of};
 ghost use Rattle.ddt_entry.specs.Keys.{key_eq};
 ghost use Rattle.plain_pool.specs.Openings.{opening_by};
+ghost use Rattle.plain_pool.specs.Placed.{placed_of};
 
-use crate::opening::{PlainKnown, PlainOpening};
+use crate::opening::{PlacedBlock, PlainKnown, PlainOpening};
 use ddt_entry::{Home, Key, KeyOf};
 use pool_model::{Block, ReadAnswer};
 use reserved_list::ReservedList;
@@ -128,6 +129,16 @@ impl PlainPointer {
         Ok(PlainKnown {
             home,
             block: copied_block(alloc, &self.content)?,
+        })
+    }
+
+    /// Its bytes at its place.
+    pub fn placed(&self, alloc: Global) -> Result<PlacedBlock, AllocError>
+        ensures { IfOk result (λ block. block ≡ placed_of self.now) }
+    {
+        Ok(PlacedBlock {
+            place: self.place,
+            content: copied_block(alloc, &self.content)?,
         })
     }
 

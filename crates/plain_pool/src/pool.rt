@@ -1,8 +1,8 @@
-ghost use Rattle.std.specs.Prelude.{◌≡◌, IfOk, position, find, filter, not, slice_get, false};
+ghost use Rattle.std.specs.Prelude.{◌≡◌, IfOk, position, find, filter, not, slice_get, slice_set, false};
 ghost use Rattle.std.specs.Option.{option_copied, option_map_or};
 ghost use Rattle.std.specs.Ordering.{is_le};
 ghost use Rattle.ddt_entry.specs.Keys.{key_cmp, key_eq};
-ghost use Rattle.pool_model.specs.Pool.{held, mode_of, count_at, keys_in, with_key, insert_pointer, with_pointer, without_pointer, comes_before, is_at, tracks};
+ghost use Rattle.pool_model.specs.Pool.{empty_pool, held, mode_of, count_at, keys_in, with_key, insert_pointer, with_pointer, without_pointer, comes_before, is_at, tracks};
 
 use crate::pointer::PlainPointer;
 use ddt_entry::Key;
@@ -10,11 +10,14 @@ use pool_model::Mode;
 use std::alloc::{AllocError, Global};
 use std::marker::Model;
 
+/// How many lanes there are.
+pub const LANES: usize = 16;
+
 /// The pointers of a pool in rising order of lane and slot, and its settings.
 #[derive(Drop)]
 pub struct PlainPool {
     pub pointers: Vec<PlainPointer>,
-    pub modes: [Mode; 16],
+    pub modes: [Mode; LANES],
     pub quota: Option<u64>,
     pub group: u64,
 }
@@ -30,6 +33,18 @@ impl Model for PlainPool {
 }
 
 impl PlainPool {
+    /// The pool that a new image has.
+    pub fn new(alloc: Global) -> PlainPool
+        ensures { result ≡ empty_pool }
+    {
+        PlainPool {
+            pointers: Vec::new(alloc),
+            modes: [Mode::On; LANES],
+            quota: None,
+            group: 1,
+        }
+    }
+
     /// What a slot holds.
     pub fn held(&self, lane: u32, slot: u32) -> Option<&PlainPointer>
         ensures { option_copied result ≡ held self.now lane slot }
@@ -99,6 +114,48 @@ impl PlainPool {
             modes,
             quota: self.quota,
             group: self.group,
+        }
+    }
+
+    /// The pool with this quota in bytes, or with none.
+    pub fn with_quota(self, quota: Option<u64>) -> PlainPool
+        ensures { result ≡ record self { quota = quota } }
+    {
+        let modes = self.modes;
+        PlainPool {
+            pointers: self.pointers,
+            modes,
+            quota,
+            group: self.group,
+        }
+    }
+
+    /// The pool with this mode of a lane.
+    pub fn with_mode(self, lane: u32, mode: Mode) -> PlainPool
+        ensures { result ≡ record self { modes = slice_set self.modes lane mode } }
+    {
+        let mut modes = self.modes;
+        if (lane as usize) < LANES {
+            modes[lane as usize] = mode;
+        }
+        PlainPool {
+            pointers: self.pointers,
+            modes,
+            quota: self.quota,
+            group: self.group,
+        }
+    }
+
+    /// The pool with this group as its last.
+    pub fn in_group(self, group: u64) -> PlainPool
+        ensures { result ≡ record self { group = group } }
+    {
+        let modes = self.modes;
+        PlainPool {
+            pointers: self.pointers,
+            modes,
+            quota: self.quota,
+            group,
         }
     }
 

@@ -1,10 +1,11 @@
-ghost use Rattle.std.specs.Prelude.{◌≡◌};
+ghost use Rattle.std.specs.Prelude.{◌≡◌, IfOk};
 ghost use Rattle.std.specs.Option.{option_copied};
 ghost use Rattle.ddt_entry.specs.Changes.{key_in};
 ghost use Rattle.ddt_entry.specs.Keys.{key_eq};
-ghost use Rattle.pool_model.specs.Table.{entry_at, change_at, found_over, found};
+ghost use Rattle.pool_model.specs.Table.{empty_table, entry_at, change_at, found_over, found};
 
 use ddt_entry::{Change, Entry, Home, Key, key_of};
+use std::alloc::{AllocError, Global};
 use std::marker::Model;
 
 /// The dedup table with its two logs, each a list sorted by key.
@@ -33,6 +34,32 @@ impl Model for PlainTable {
 }
 
 impl PlainTable {
+    /// The table that a new image has.
+    pub fn new(alloc: Global) -> PlainTable
+        ensures { result ≡ empty_table }
+    {
+        PlainTable {
+            zap: Vec::new(alloc),
+            flush: Vec::new(alloc),
+            active: Vec::new(alloc),
+            age: 0,
+            checkpoint: None,
+        }
+    }
+
+    /// Another table that says the same.
+    pub fn copied(&self, alloc: Global) -> Result<PlainTable, AllocError>
+        ensures { IfOk result (λ copy. copy ≡ self.now) }
+    {
+        Ok(PlainTable {
+            zap: Vec::from_slice(alloc, self.zap.as_slice())?,
+            flush: Vec::from_slice(alloc, self.flush.as_slice())?,
+            active: Vec::from_slice(alloc, self.active.as_slice())?,
+            age: self.age,
+            checkpoint: self.checkpoint,
+        })
+    }
+
     /// The home of a key: by the active log, then by the flushing log, then by the stored table.
     pub fn found(&self, key: &Key) -> Option<Home>
         ensures { result ≡ found self.now key.now }
@@ -61,7 +88,7 @@ fn change_at<'a>(log: &'a [Change], key: &Key) -> Option<&'a Change>
 }
 
 /// Whether a change is of this key.
-fn is_of(change: &Change, key: &Key) -> bool
+pub fn is_of(change: &Change, key: &Key) -> bool
     ensures { result ≡ key_eq (key_in change.now) key.now }
 {
     key_of(change) == *key
