@@ -1,9 +1,3 @@
-pub mod Courses
-pub mod Openings
-pub mod Placed
 pub mod Pointers
 pub mod Pools
-pub mod Rows
 pub mod Small
-pub mod Standings
-pub mod Tables

@@ -1,14 +1,8 @@
 ghost use Rattle.std.specs.Prelude.{◌≡◌, IfOk};
 ghost use Rattle.pool_model.specs.Pool.{is_tracked, is_plain, is_loose, since_of, is_at, tracks, comes_before};
-ghost use Rattle.pool_model.specs.Command.{home_at, sight_at};
-ghost use Rattle.pool_model.specs.Plain.{sight_of};
-ghost use Rattle.ddt_entry.specs.Keys.{key_eq};
-ghost use Rattle.plain_pool.specs.Openings.{opening_by};
-ghost use Rattle.plain_pool.specs.Placed.{placed_of};
 
-use crate::opening::{PlacedBlock, PlainKnown, PlainOpening};
-use ddt_entry::{Home, Key, KeyOf};
-use pool_model::{Block, ReadAnswer};
+use ddt_entry::Key;
+use pool_model::Block;
 use reserved_list::ReservedList;
 use std::alloc::{AllocError, Global};
 use std::marker::Model;
@@ -113,63 +107,6 @@ impl PlainPointer {
         ensures { result ≡ comes_before self.now other.now }
     {
         self.lane < other.lane || (self.lane == other.lane && self.slot < other.slot)
-    }
-
-    /// Its home, where so many pointers share it, with its block's bytes.
-    pub fn known_at(&self, alloc: Global, count: u64) -> Result<PlainKnown, AllocError>
-        ensures { IfOk result (λ known.
-            known ≡ record { home = home_at self.now count; block = self.now.content }) }
-    {
-        let home = Home {
-            place: self.place,
-            birth: self.birth,
-            since: self.since(),
-            count,
-        };
-        Ok(PlainKnown {
-            home,
-            block: copied_block(alloc, &self.content)?,
-        })
-    }
-
-    /// Its bytes at its place.
-    pub fn placed(&self, alloc: Global) -> Result<PlacedBlock, AllocError>
-        ensures { IfOk result (λ block. block ≡ placed_of self.now) }
-    {
-        Ok(PlacedBlock {
-            place: self.place,
-            content: copied_block(alloc, &self.content)?,
-        })
-    }
-
-    /// What a read of it tells, where reads of the device have failed or not.
-    pub fn sight<K: KeyOf>(
-        &self,
-        alloc: Global,
-        keyer: &K,
-        _opening: &PlainOpening,
-        failed: bool,
-    ) -> Result<ReadAnswer, AllocError>
-        ensures { IfOk result (λ sight. sight_of sight
-            ≡ sight_at (Some self.now) (opening_by (K.key_of keyer.now) _opening.now) failed) }
-    {
-        if failed {
-            return Ok(ReadAnswer::Fault);
-        }
-        if !self.has_its_key(keyer) {
-            return Ok(ReadAnswer::Damaged(self.place));
-        }
-        Ok(ReadAnswer::Bytes(copied_block(alloc, &self.content)?))
-    }
-
-    /// Whether its content has its key. One of another length never has.
-    fn has_its_key<K: KeyOf>(&self, keyer: &K) -> bool
-        ensures { result ≡ key_eq (K.key_of keyer.now self.now.content) self.now.key }
-    {
-        if self.content.len() != u64::from(self.key.len) {
-            return false;
-        }
-        keyer.key(self.content.as_slice()) == self.key
     }
 
     /// Another pointer that says the same.

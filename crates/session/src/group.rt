@@ -1,15 +1,14 @@
-ghost use Rattle.std.specs.Prelude.{◌≡◌, ℕ, ◌+◌, ◌<◌, ◌≤◌, ◌++◌, length, map, find, All, IfOk};
+ghost use Rattle.std.specs.Prelude.{◌≡◌, ℕ, ◌+◌, ◌<◌, ◌≤◌, ◌++◌, length, map, IfOk};
 ghost use Rattle.std.specs.List.{AllByRecursion};
-ghost use Rattle.std.specs.Option.{option_copied};
-ghost use Rattle.pool_model.specs.Pool.{tracked, tracks, empty_pool};
+ghost use Rattle.pool_model.specs.Pool.{tracked};
 ghost use Rattle.pool_model.specs.Plain.{content_of, act_of, task_of, reply_of, told_of};
 ghost use Rattle.plain_pool.specs.Small.{IsSmall};
 ghost use Rattle.session.specs.Writing.{Writes, WritesAct, WritesBlock, IsFirstWrite, IsFirstRun, HasWritten, first_note, turns_from, places_after};
 
 use ddt_entry::{Key, KeyOf};
-use plain_pool::{Mark, PlainPointer, PlainPool};
+use plain_pool::{Mark, PlainPointer, PlainPool, copied_block};
 use pool_model::{
-    Answers, Block, Command, CommandAnswer, GroupNote, Kind, LaneNote, LaneNotes, LanesGroup, Mode,
+    Answers, Block, Command, CommandAnswer, GroupNote, Kind, LaneNote, LaneNotes, LanesGroup,
     Outcome, Payload, PlaceList, Verb, WriteAnswer,
 };
 use reserved_list::ReservedList;
@@ -25,18 +24,13 @@ const FIRST_GROUP: u64 = 2;
 fn spread(alloc: Global, payload: &Payload) -> Result<Block, AllocError>
     ensures { IfOk result (λ block. block.items ≡ content_of payload.now) }
 {
-    let bytes = match payload {
-        Payload::Bytes(block) => Vec::from_slice(alloc, block.as_slice())?,
-        Payload::Repeat { byte, times } => vec![in alloc; *byte; *times as usize]?,
-    };
-    Ok(ReservedList::from_vec(bytes))
-}
-
-/// A pointer that the table counts under this key.
-fn sharer<'a>(pool: &'a PlainPool, key: &Key) -> Option<&'a PlainPointer>
-    ensures { option_copied result ≡ find (tracks key.now) pool.now.pointers }
-{
-    pool.pointers.iter().find(|pointer| pointer.tracks(key))
+    match payload {
+        Payload::Bytes(block) => copied_block(alloc, block),
+        Payload::Repeat { byte, times } => {
+            let bytes = vec![in alloc; *byte; *times as usize]?;
+            Ok(ReservedList::from_vec(bytes))
+        }
+    }
 }
 
 /// A pointer of a slot of lane 0 that the table counts.
@@ -74,7 +68,7 @@ fn write<K: KeyOf>(
         return Ok((pool, WriteAnswer::Taken));
     }
     let key = keyer.key(content.as_slice());
-    let Some(home) = sharer(&pool, &key) else {
+    let Some(home) = pool.first_tracked(&key) else {
         let pointer = counted(slot, key, content, place, FIRST_GROUP, moment);
         return Ok((pool.with_pointer(pointer)?, WriteAnswer::New));
     };
@@ -113,18 +107,6 @@ fn note_place(fresh: &mut PlaceList, place: u64, answer: WriteAnswer)
     }
 }
 
-/// The pool of a new image.
-fn empty_pool(alloc: Global) -> PlainPool
-    ensures { result ≡ empty_pool }
-{
-    PlainPool {
-        pointers: Vec::new(alloc),
-        modes: [Mode::On; 16],
-        quota: None,
-        group: 1,
-    }
-}
-
 /// What the writes of a group came to: the pool, an answer for each, and the fresh places that were used.
 #[derive(Drop)]
 struct Written {
@@ -145,7 +127,7 @@ fn write_all<K: KeyOf>(
     ensures run { IfOk result (λ w. HasWritten (K.key_of keyer.now) moment w.pool (turns_from (map task_of commands.now) (map reply_of w.answers.items)) w.fresh.items) }
     ensures each { IfOk result (λ w. length w.answers.items ≡ length commands.now) }
 {
-    let mut pool = empty_pool(alloc);
+    let mut pool = PlainPool::new(alloc);
     let mut answers = Answers::new(alloc);
     answers.reserve(commands.len() as u64)?;
     let mut fresh = PlaceList::new(alloc);
@@ -184,15 +166,7 @@ fn noted(alloc: Global, written: Written) -> Result<(GroupNote, PlainPool), Allo
         taken: 0,
         lanes,
     };
-    Ok((note, of_group(written.pool, FIRST_GROUP)))
-}
-
-/// The pool as the last sealed group.
-fn of_group(mut pool: PlainPool, group: u64) -> PlainPool
-    ensures { result ≡ record pool { group = group } }
-{
-    pool.group = group;
-    pool
+    Ok((note, written.pool.in_group(FIRST_GROUP)))
 }
 
 /// Runs a group of writes of lane 0 over the empty pool: the note of what it did, and the pool after it.

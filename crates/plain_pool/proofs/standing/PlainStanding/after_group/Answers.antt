@@ -1,8 +1,0 @@
-use Rattle.plain_pool.specs.Standings.{standing_of}
-use Rattle.plain_pool.proofs.Afterwards.{same_after, same_if_ok}
-use Rattle.plain_pool.proofs.standing.PlainStanding.after_group.Goals as goal
-
-pub returns : goal.returns
-returns g c =
-    let same = same_after _ _ (standing_of c.args.self) _ _ (c.in_ok-opening.ensures (g.K.KeyOf.key_of c.args.keyer.now)) c.in_ok-course.ensures in
-    same_if_ok standing_of c.after_course.result _ _ same (c.after_course.ensures (g.K.KeyOf.key_of c.args.keyer.now))

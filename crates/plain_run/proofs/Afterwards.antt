@@ -1,0 +1,53 @@
+-- What stands after a group.
+use Rattle.std.proofs.Common.{◌≡◌, ◌==◌, ℕ, ◌+◌, ◌<◌, Bool, true, false, cond, List, [], ◌∷◌, ◌++◌, length, take, get_or, map, Option, Some, None, Result, Ok, Err, IfOk, refl, sym, ap, ◌∙◌}
+use Rattle.std.specs.List.{find, filter_map, cons_option}
+use Rattle.std.proofs.lemmas.List.{take_more}
+use Rattle.std.proofs.lemmas.List.Elements.{filter_map-append}
+use Rattle.std.specs.Option.{option_map_or, option_to_list}
+use Rattle.pool_model.specs.declared.commands.Command.{Command}
+use Rattle.pool_model.specs.declared.notes.LaneNote.{LaneNote}
+use Rattle.pool_model.specs.Plain.{task_of, lane_told}
+use Rattle.pool_model.specs.Command.{Opening, Course}
+use Rattle.pool_model.specs.Pool.{Pool, Pointer}
+use Rattle.pool_model.specs.Group.{Standing, block_or, course_of, fresh_of, lane_by_lane, after_lanes}
+use Rattle.plain_run.specs.Placed.{Placed, placed_of}
+use Rattle.plain_run.specs.Openings.{bytes_at}
+
+-- the bytes at a place are those of a pointer there, or else as they were
+pub bytes_at-after : (ps : List Pointer) (blocks : List Placed) (place : ℕ) → bytes_at (map placed_of ps ++ blocks) place ≡ block_or (bytes_at blocks place) (find (λ p. p.place == place) ps)
+bytes_at-after [] blocks place = refl
+bytes_at-after (p ∷ ps) blocks place =
+    elim (p.place == place) as (λ b. option_map_or (λ (block : Placed). block.content) (cond b (Some (placed_of p)) (find (λ block. block.place == place) (map placed_of ps ++ blocks))) [] ≡ block_or (bytes_at blocks place) (cond b (Some p) (find (λ q. q.place == place) ps)))
+    [ true ↦ refl | false ↦ bytes_at-after ps blocks place ]
+
+-- standings agree where their pools and tables are the same, and the bytes at each place
+pub same_standing : (a b : Standing) → a.pool ≡ b.pool → a.table ≡ b.table → ((place : ℕ) → a.blocks place ≡ b.blocks place) → a ≡ b
+same_standing a b pool table blocks = λ i. record { pool = pool i; table = table i; blocks = λ place. blocks place i }
+
+listed : {X : Type 0} (o : Option X) → cons_option o [] ≡ option_to_list o
+listed None = refl
+listed (Some x) = refl
+
+-- one more item, and what it gives
+pub filter_map_more : {X Y : Type 0} (h : X → Option Y) (xs : List X) (i : ℕ) (d : X) (ys more : List Y) (o : Option Y) → i < length xs → ys ≡ filter_map h (take i xs) → o ≡ h (get_or xs i d) → more ≡ ys ++ option_to_list o → more ≡ filter_map h (take (i + 1) xs)
+filter_map_more h xs i d ys more o within so_far here pushed =
+    pushed
+    ∙ ap (λ l. l ++ option_to_list o) so_far
+    ∙ ap (λ p. filter_map h (take i xs) ++ option_to_list p) here
+    ∙ ap (λ l. filter_map h (take i xs) ++ l) (sym (listed (h (get_or xs i d))))
+    ∙ sym (filter_map-append h (take i xs) (get_or xs i d ∷ []))
+    ∙ ap (filter_map h) (sym (take_more xs i d within))
+
+-- courses agree where their openings, pools, commands and notes are the same
+pub same_course : (o o' : Opening) (p p' : Pool) (commands commands' : List Command) (notes notes' : List LaneNote) → o ≡ o' → p ≡ p' → commands ≡ commands' → notes ≡ notes' → course_of o p (fresh_of (map lane_told notes)) (lane_by_lane (map task_of commands) (map lane_told notes)) ≡ course_of o' p' (fresh_of (map lane_told notes')) (lane_by_lane (map task_of commands') (map lane_told notes'))
+same_course o o' p p' commands commands' notes notes' opening pool list noted = λ i.
+    course_of (opening i) (pool i) (fresh_of (map lane_told (noted i))) (lane_by_lane (map task_of (list i)) (map lane_told (noted i)))
+
+-- so do what stands after two groups
+pub same_after : (o o' : Opening) (s : Standing) (k k' : Course) → o ≡ o' → k ≡ k' → after_lanes o s k ≡ after_lanes o' s k'
+same_after o o' s k k' opening course = λ i. after_lanes (opening i) s (course i)
+
+-- a value that is one thing in an `Ok` is whatever that is
+pub same_if_ok : {X T E : Type 0} (f : T → X) (r : Result T E) (a b : X) → a ≡ b → IfOk r (λ t. f t ≡ a) → IfOk r (λ t. f t ≡ b)
+same_if_ok f (Ok t) a b same is = is ∙ same
+same_if_ok f (Err e) a b same is = tt

@@ -1,0 +1,4 @@
+pub mod Afterwards
+pub mod LastTracked
+pub mod Sets
+pub mod Turns

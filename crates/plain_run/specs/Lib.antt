@@ -1,0 +1,6 @@
+pub mod Courses
+pub mod Openings
+pub mod Placed
+pub mod Rows
+pub mod Standings
+pub mod Tables
