@@ -1,14 +1,12 @@
 -- Bounds on the numbers of a report.
-use Rattle.std.proofs.Common.{◌≡◌, ℕ, ◌+◌, ◌*◌, ◌^◌, ◌<◌, ◌≤◌, ◌||◌, Bool, true, false, cond, List, [], ◌∷◌, length, take, drop, All, sum_by, count_by, filter, fold, refl, sym, ap, ◌∙◌, arith, if◌then◌else◌}
+use Rattle.std.proofs.Common.{ℕ, ◌+◌, ◌*◌, ◌^◌, ◌<◌, ◌≤◌, Bool, true, false, List, [], ◌∷◌, length, All, sum_by, filter, fold, arith, if◌then◌else◌}
 use Rattle.std.proofs.Math.Nat.{mul-le-mul}
-use Rattle.std.specs.Ordering.{is_le, is_lt, is_eq}
-use Rattle.std.specs.declared.cmp.Ordering.{Ordering}
+use Rattle.std.specs.Ordering.{is_lt, is_eq}
 use Rattle.std.specs.declared.cmp.Ordering.TheVariants.{Less, Equal, Greater}
-use Rattle.std.proofs.lemmas.Grind.{common_steps}
-use Rattle.std.proofs.lemmas.List.Sums.{sum_by-le, sum_by-le-sum_by, length-filter, count_by-le-length}
+use Rattle.std.proofs.lemmas.List.Sums.{sum_by-le, length-filter, count_by-le-length}
 use Rattle.std.proofs.lemmas.List.Elements.{All-nil, All-cons, All-head, All-tail, All-weaker, All-filter}
 use Rattle.ddt_entry.specs.declared.key.Key.{Key}
-use Rattle.ddt_entry.specs.Keys.{key_cmp, key_eq}
+use Rattle.ddt_entry.specs.Keys.{key_cmp}
 use Rattle.pool_model.specs.Pool.{Pool, Pointer, with_key, is_tracked, keys_in, count_at, tracks}
 use Rattle.plain_pool.specs.Small.{IsSmall}
 

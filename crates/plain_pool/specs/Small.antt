@@ -1,5 +1,5 @@
 -- Pools for whose reports 64 bits are enough.
-use Rattle.std.specs.Prelude.{ℕ, ◌^◌, ◌≤◌, length, All}
+use Rattle.std.specs.Prelude.{◌^◌, ◌≤◌, length, All}
 use Rattle.pool_model.specs.Pool.{Pool}
 
 -- few enough pointers, and keys short enough

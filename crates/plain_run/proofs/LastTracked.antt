@@ -3,7 +3,7 @@ use Rattle.std.proofs.Common.{◌≡◌, ℕ, ◌+◌, ◌<◌, Bool, true, fals
 use Rattle.std.specs.List.{find}
 use Rattle.std.proofs.lemmas.List.{at_drop_more}
 use Rattle.ddt_entry.specs.declared.key.Key.{Key}
-use Rattle.pool_model.specs.Pool.{Pool, Pointer, tracks, tracked_at}
+use Rattle.pool_model.specs.Pool.{Pool, Pointer, tracks}
 use Rattle.pool_model.specs.Command.{or_in, last_tracked}
 
 pub or_in-Some : (test : Pointer → Bool) (rest : Option Pointer) (ps : List Pointer) (p : Pointer) → find test ps ≡ Some p → or_in rest (filter test ps) ≡ Some p

@@ -1,14 +1,11 @@
 -- The turns that are left of a lane, and of a group's lanes.
-use Rattle.std.proofs.Common.{◌≡◌, ◌==◌, ℕ, ◌+◌, ◌<◌, ◌≤◌, Bool, true, false, cond, List, [], ◌∷◌, ◌++◌, length, get_or, drop, map, filter, fold, replicate, refl, sym, ap, ◌∙◌, arith}
-use Rattle.std.specs.List.{zip, flat_map}
-use Rattle.std.proofs.lemmas.List.{at_drop_more, at_drop_all}
-use Rattle.std.proofs.lemmas.List.Sums.{fold-append}
+use Rattle.std.proofs.Common.{◌≡◌, ◌==◌, ℕ, true, false, cond, List, [], ◌∷◌, map, refl, ap}
+use Rattle.std.specs.List.{zip}
 use Rattle.pool_model.specs.declared.commands.Command.{Command}
 use Rattle.pool_model.specs.declared.answers.CommandAnswer.{CommandAnswer}
-use Rattle.pool_model.specs.declared.notes.LaneNote.{LaneNote}
-use Rattle.pool_model.specs.Plain.{Task, Reply, task_of, reply_of, lane_told}
-use Rattle.pool_model.specs.Command.{Turn, Course, Opening, after}
-use Rattle.pool_model.specs.Group.{tasks_of, turns_of}
+use Rattle.pool_model.specs.Plain.{Task, Reply, task_of, reply_of}
+use Rattle.pool_model.specs.Command.{Turn}
+use Rattle.pool_model.specs.Group.{tasks_of}
 use Rattle.plain_run.specs.Courses.{turn_of}
 
 abbrev pub joined : Task × Reply → Turn

@@ -1,4 +1,4 @@
-use Rattle.std.proofs.Common.{◌≡◌, ◌∙◌, Some, None, position, refl, sym, ap}
+use Rattle.std.proofs.Common.{◌≡◌, ◌∙◌, Some, None, position, refl, sym}
 use Rattle.ddt_entry.specs.declared.entry.Entry.{Entry}
 use Rattle.pool_model.specs.Table.{set_entry}
 use Rattle.plain_run.proofs.Sets.{SetsAt, from_by, set_last, set_there, set_before}

@@ -1,4 +1,3 @@
-use Rattle.std.proofs.Common.{arith, ap, length, rules}
 use Rattle.pool_model.specs.Pool.{count_at}
 use Rattle.pool_model.specs.Stats.{is_in_bucket}
 use Rattle.plain_pool.proofs.Sums.{length-some_keys, sum_by-counts}

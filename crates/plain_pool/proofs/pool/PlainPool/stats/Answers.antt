@@ -1,4 +1,4 @@
-use Rattle.std.proofs.Common.{arith, ap, length}
+use Rattle.std.proofs.Common.{arith}
 use Rattle.plain_pool.proofs.Sums.{length-keys_in}
 use Rattle.plain_pool.proofs.pool.PlainPool.stats.Goals as goal
 

@@ -1,4 +1,4 @@
-use Rattle.std.proofs.Common.{◌≡◌, ◌∙◌, ◌++◌, map, ap}
+use Rattle.std.proofs.Common.{◌∙◌, ◌++◌, map, ap}
 use Rattle.pool_model.specs.Pool.{Pool}
 use Rattle.pool_model.specs.Command.{Course}
 use Rattle.pool_model.specs.Table.{sync_table}

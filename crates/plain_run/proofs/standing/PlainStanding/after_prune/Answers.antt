@@ -1,4 +1,4 @@
-use Rattle.std.proofs.Common.{◌≡◌, ◌∙◌, ◌+◌, refl, ap}
+use Rattle.std.proofs.Common.{◌∙◌, ◌+◌, refl, ap}
 use Rattle.pool_model.specs.Pool.{Pool}
 use Rattle.pool_model.specs.Prune.{after_prune}
 use Rattle.pool_model.specs.Table.{sync_table}
