@@ -4,7 +4,7 @@
 //! memory, and compares what comes out with what the rules of the pool say of the file. `reports` has
 //! the text of whole reports and the notes of a session, `refusals` has files and words that a session
 //! refuses, `failures` has streams that fail at some call, and `reference` runs the plain program of
-//! `plain_pool` beside the session and compares the two.
+//! `plain_run` beside the session and compares the two.
 //!
 //! The expected texts are written out by hand from the rules; none was taken from a run. `files` has the
 //! command files that several of them use, and `running` the one way in which all of them run a session.

@@ -1,5 +1,5 @@
 ghost use Rattle.std.specs.Prelude.{All, IsTrue};
-ghost use Rattle.plain_pool.specs.Courses.{WritesContent};
+ghost use Rattle.plain_run.specs.Courses.{WritesContent};
 ghost use Rattle.pool_model.specs.Plain.{act_of};
 
 use crate::files::{SCENARIOS, file_of_lengths, file_of_thousand};
@@ -7,7 +7,8 @@ use crate::running::{run_file, sink_of, source_of};
 use cmd_file::read_file;
 use ddt_entry::{KeyOf, Sha256Key};
 use io_model::MemSink;
-use plain_pool::{PlainAnswer, PlainCourse, PlainOpening, PlainPool, PlainTable, after_lanes};
+use plain_pool::PlainPool;
+use plain_run::{PlainAnswer, PlainCourse, PlainOpening, PlainTable, after_lanes};
 use pool_model::{
     Command, CommandAnswer, GroupNote, Item, LaneNote, LanesGroup, Mode, Payload, Stats, Verb,
 };
