@@ -18,6 +18,8 @@ mod row;
 mod standing;
 mod sync;
 mod table;
+#[cfg(test)]
+mod tests;
 
 pub use answer::PlainAnswer;
 pub use course::PlainCourse;
