@@ -2,7 +2,7 @@ ghost use Rattle.std.specs.Prelude.{All, IsTrue};
 ghost use Rattle.plain_run.specs.Courses.{WritesContent};
 ghost use Rattle.pool_model.specs.Plain.{act_of};
 
-use crate::files::{SCENARIOS, file_of_lengths, file_of_thousand};
+use crate::files::{SCENARIOS, file_of_lengths};
 use crate::running::{run_file, sink_of, source_of};
 use cmd_file::read_file;
 use ddt_entry::{KeyOf, Sha256Key};
@@ -139,7 +139,5 @@ fn the_plain_program_answers_and_counts_the_same(rt: HostRuntime) -> Result<(), 
         compare(&rt, alloc, scenario.file)?;
     }
     let longest = file_of_lengths(alloc, 1000, &[4096])?;
-    compare(&rt, alloc, longest.as_str())?;
-    let thousand = file_of_thousand(alloc)?;
-    compare(&rt, alloc, thousand.as_str())
+    compare(&rt, alloc, longest.as_str())
 }
