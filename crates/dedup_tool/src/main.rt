@@ -6,7 +6,8 @@
 //! real machine, of which nothing is known but what std's readers and writers say.
 #![tactic(auto)]
 
-ghost use Rattle.std.specs.Prelude.{◌≡◌};
+ghost use Rattle.std.specs.Prelude.{◌≡◌, ◌≢◌, ◌↔◌, map, string_bytes};
+ghost use Rattle.session.specs.Running.{session_words};
 
 mod image;
 
@@ -32,8 +33,11 @@ fn told(rt: &impl Eprint, text: &str, status: u8) -> u8
     status
 }
 
-/// Runs a session on these words, and answers its status.
-fn run_words<R: Input + Print + Eprint>(rt: &R, alloc: Global, words: &[String]) -> u8 {
+/// Runs a session on these words, and answers its status, which is that of `usage` exactly where the
+/// words are not a session's. A fault is told on standard error if there is memory for its text.
+fn run_words<R: Input + Print + Eprint>(rt: &R, alloc: Global, words: &[String]) -> u8
+    ensures usage { (result ≡ 1) ↔ (map string_bytes words.now ≢ session_words) }
+{
     let mut input = StdSource::new(rt.reader());
     let mut out = StdSink::new(writer(rt));
     let mut session = Session {
