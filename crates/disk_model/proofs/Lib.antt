@@ -1,0 +1,4 @@
+pub mod Moments
+pub mod Sectors
+mod Kept
+mod Outcomes

@@ -1,0 +1,34 @@
+-- How what a crash leaves at each moment of a run goes on from call to call.
+use Rattle.std.proofs.Common.{ℕ, ◌≤◌, inl, inr, ⊎_elim, arith}
+use Rattle.disk_model.specs.Images.{Image}
+use Rattle.disk_model.specs.Crashes.{Elapses, LeavesOnly}
+
+module _ {D : Type 0} (clock : D → ℕ) (left_since : D → ℕ → Image → Type 0) where
+  -- before the first call
+  pub started : (old : D) (P : Image → Type 0) → ((c : Image) → left_since old (clock old) c → P c) → LeavesOnly clock left_since old old P
+  started old P here = record { later = omega arith; each = here; before = λ since c earlier left. inl left }
+
+  -- one call more, after which a crash leaves what has P
+  pub goes_on : (old mid new : D) (P may_leave : Image → Type 0) → LeavesOnly clock left_since old mid P → Elapses (clock mid) (clock new) (left_since mid) (left_since new) may_leave
+      → ((c : Image) → may_leave c → P c) → LeavesOnly clock left_since old new P
+  goes_on old mid new P may_leave so_far time here = record {
+    later = omega (arith, so_far.later, time.later);
+    each = λ c left. ⊎_elim (so_far.each c) (here c) (time.nothing_else (clock old) c so_far.later left);
+    before = λ since c earlier left. ⊎_elim (so_far.before since c earlier) (λ now. inr (here c now)) (time.nothing_else since c (omega (arith, earlier, so_far.later)) left);
+  }
+
+  -- one run after another
+  pub and_then : (old mid new : D) (P : Image → Type 0) → LeavesOnly clock left_since old mid P → LeavesOnly clock left_since mid new P → LeavesOnly clock left_since old new P
+  and_then old mid new P first second = record {
+    later = omega (arith, first.later, second.later);
+    each = λ c left. ⊎_elim (first.each c) (λ now. now) (second.before (clock old) c first.later left);
+    before = λ since c earlier left. ⊎_elim (first.before since c earlier) (λ now. inr now) (second.before since c (omega (arith, earlier, first.later)) left);
+  }
+
+  -- a run of which less is said
+  pub weakened : (old new : D) (P Q : Image → Type 0) → LeavesOnly clock left_since old new P → ((c : Image) → P c → Q c) → LeavesOnly clock left_since old new Q
+  weakened old new P Q run less = record {
+    later = run.later;
+    each = λ c left. less c (run.each c left);
+    before = λ since c earlier left. ⊎_elim (λ was. inl was) (λ now. inr (less c now)) (run.before since c earlier left);
+  }

@@ -1,0 +1,6 @@
+pub mod Crashes
+pub mod Faults
+pub mod Images
+pub mod Memory
+pub mod MemoryLaws
+pub mod Plans

@@ -1,0 +1,21 @@
+-- That what a disk in memory tells of crashes at earlier moments agrees with what it tells of a crash now.
+use Rattle.std.specs.Prelude.{◌≡◌, ◌≤◌, ℕ, List, length, take}
+use Rattle.std.proofs.Common.{subst, sym, arith}
+use Rattle.std.proofs.lemmas.List.{take_all}
+use Rattle.disk_model.specs.Images.{Image, IsImage}
+use Rattle.disk_model.specs.Memory.{MemoryDisk, MayLeave, MayBeLeft, WasLeftSince, cells_after}
+use Rattle.disk_model.specs.declared.call.Call.{Call}
+
+-- this moment is one of those since an earlier one
+pub left_now : (disk : MemoryDisk) (since : ℕ) (c : Image) → since ≤ length disk.calls → MayBeLeft disk c → WasLeftSince disk since c
+left_now disk since c earlier left = record {
+  done = length disk.calls;
+  no_earlier = earlier;
+  no_later = omega arith;
+  left = subst (λ (calls : List Call). MayLeave disk.sectors (cells_after disk.start calls) c) (sym (take_all (length disk.calls) disk.calls (omega arith))) left;
+}
+
+-- since this moment there is no other
+pub no_other : (disk : MemoryDisk) (c : Image) → WasLeftSince disk (length disk.calls) c → MayBeLeft disk c
+no_other disk c was =
+    subst (λ (calls : List Call). MayLeave disk.sectors (cells_after disk.start calls) c) (take_all was.done disk.calls (omega (arith, was.no_earlier))) was.left
