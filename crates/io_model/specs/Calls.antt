@@ -1,15 +1,12 @@
 -- The calls of an object, counted, and those of them that it is told to fail.
-use Rattle.std.specs.Prelude.{ℕ, ◌+◌, ◌-◌, ◌^◌, min, List, Contains}
+use Rattle.std.specs.Prelude.{ℕ, List, Contains}
+pub use Rattle.disk_model.specs.Faults.{one_more}
 
 -- the numbers of the calls that are to fail, counted from 1; how many were made; how many of those failed
 pub record Calls : Type 0 where
   pub listed : List ℕ
   pub made : ℕ
   pub failed : ℕ
-
--- a count of 64 bits, one higher unless it stands at its end
-abbrev pub one_more : ℕ → ℕ
-one_more count = min (count + 1) (2 ^ 64 - 1)
 
 -- before the first call
 abbrev pub no_calls : List ℕ → Calls

@@ -1,15 +1,7 @@
 -- What a call of the outside may leave: of a count of faults, of the bytes left to read, of the bytes written.
-use Rattle.std.specs.Prelude.{◌≡◌, ℕ, ◌+◌, ◌-◌, ◌^◌, ◌≤◌, min, List, length, take, drop, Option, Result, MatchResult, OnErr}
+use Rattle.std.specs.Prelude.{◌≡◌, ℕ, ◌≤◌, List, length, take, drop, Option, Result, MatchResult}
 use Rattle.std.specs.Io.KnownBytes.{Appends, Consumes, IsAtEnd}
-
--- the count rose, or stands at the end of its type
-abbrev pub Rose : ℕ → ℕ → Type 0
-Rose before now = min (before + 1) (2 ^ 64 - 1) ≤ now
-
--- the count doesn't fall, and it rose where the call failed
-pub record HasCause {T E : Type 0} (before now : ℕ) (result : Result T E) : Type 0 where
-  pub later : before ≤ now
-  pub rose : OnErr result (Rose before now)
+pub use Rattle.disk_model.specs.Faults.{Rose, HasCause}
 
 -- behind the bytes that a read gave the buffer is as it was, and all of it where the read failed
 abbrev pub KeepsBehind : {E : Type 0} → Result ℕ E → List ℕ → List ℕ → Type 0

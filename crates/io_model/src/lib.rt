@@ -5,6 +5,8 @@
 //! faults. The count never falls, and a call answers `Failed` only where it rose, so that a body above
 //! cannot make a fault up. `read_whole` and `write_whole` are the loops over them that the rest uses.
 //!
+//! `Failed` and the counts are those of a disk (`disk_model`).
+//!
 //! `MemSource` and `MemSink` keep their bytes in memory, tell them, and fail at the calls that they
 //! were told to fail: tests run the program over them. `StdSource` and `StdSink` pass on std's readers
 //! and writers, and tell of the bytes what those tell, for a real stream nothing.
@@ -20,10 +22,11 @@ mod source;
 mod std_sink;
 mod std_source;
 
+pub use disk_model::Failed;
 pub use mem_sink::MemSink;
 pub use mem_source::MemSource;
 pub use sink::{Sink, write_whole};
-pub use source::{Failed, ReadFault, Source, read_whole};
+pub use source::{ReadFault, Source, read_whole};
 pub use std_sink::StdSink;
 pub use std_source::StdSource;
 

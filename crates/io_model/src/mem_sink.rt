@@ -6,7 +6,7 @@ ghost use Rattle.io_model.specs.Calls.{no_calls, NextIsListed, one_call, one_fau
 
 use crate::planned_calls::PlannedCalls;
 use crate::sink::Sink;
-use crate::source::Failed;
+use disk_model::Failed;
 use std::alloc::Global;
 use std::marker::Model;
 

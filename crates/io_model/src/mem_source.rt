@@ -5,7 +5,8 @@ ghost use Rattle.io_model.specs.Outside.{HasCause, KeepsBehind};
 ghost use Rattle.io_model.specs.Calls.{no_calls, NextIsListed, one_call, one_fault};
 
 use crate::planned_calls::PlannedCalls;
-use crate::source::{Failed, Source};
+use crate::source::Source;
+use disk_model::Failed;
 use std::marker::Model;
 
 /// A source whose bytes stand in memory. It gives at most a piece of them at each call, tells what is

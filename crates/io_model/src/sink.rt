@@ -3,7 +3,7 @@ ghost use Rattle.std.specs.Io.{WritesAtMost};
 ghost use Rattle.std.specs.Io.KnownBytes.{Appends, WriteAppends};
 ghost use Rattle.io_model.specs.Outside.{HasCause, TookFront};
 
-use crate::source::Failed;
+use disk_model::Failed;
 
 /// What bytes are written to.
 pub trait Sink {

@@ -4,11 +4,8 @@ ghost use Rattle.std.specs.Io.KnownBytes.{ReadConsumes, Consumes};
 ghost use Rattle.io_model.specs.Outside.{HasCause, Rose, KeepsBehind, HasRead, ConsumesUpTo};
 ghost use Rattle.io_model.specs.declared.source.ReadFault.TheVariants.{Source as SourceFault, Memory as OutOfMemory};
 
+use disk_model::Failed;
 use std::alloc::{AllocError, Global};
-
-/// A call of the outside failed.
-#[derive(Clone, Copy, Debug, PartialEq, Eq)]
-pub struct Failed;
 
 /// What bytes are read from.
 pub trait Source {

@@ -6,7 +6,7 @@ ghost use Rattle.io_model.specs.Calls.{one_more};
 ghost use Rattle.io_model.specs.Streams.{Adapted};
 
 use crate::sink::Sink;
-use crate::source::Failed;
+use disk_model::Failed;
 use std::io::Write;
 use std::marker::Model;
 

@@ -5,7 +5,8 @@ ghost use Rattle.io_model.specs.Outside.{HasCause, KeepsBehind};
 ghost use Rattle.io_model.specs.Calls.{one_more};
 ghost use Rattle.io_model.specs.Streams.{Adapted};
 
-use crate::source::{Failed, Source};
+use crate::source::Source;
+use disk_model::Failed;
 use std::io::Read;
 use std::marker::Model;
 
