@@ -1,4 +1,5 @@
 ghost use Rattle.std.specs.Prelude.{◌≡◌, ◌≤◌, ◌++◌, List, ℕ, length, take};
+ghost use Rattle.std.specs.List.{AllByRecursion};
 ghost use Rattle.page_tree.specs.Bytes.{AreBytes, zeros};
 ghost use Rattle.page_tree.specs.Pointers.{FitsPointer, null_pointer, pointer_bytes, pointer_in};
 ghost use Rattle.page_tree.specs.declared.pointer.PagePtr.{PagePtr};
@@ -69,3 +70,12 @@ pub fn null_is_zeros()
 pub fn pointer_fits(pointer: PagePtr)
     ensures { FitsPointer pointer }
 {}
+
+/// Pointers that code has in hand fit.
+pub fn pointers_fit(pointers: &[PagePtr])
+    ensures { AllByRecursion FitsPointer pointers.now }
+{
+    'pointers: for pointer in pointers {
+        pointer_fits(*pointer);
+    }
+}

@@ -1,7 +1,8 @@
-ghost use Rattle.std.specs.Prelude.{◌≡◌, ◌%◌, ◌≤◌, ℕ, List, Some, length};
+ghost use Rattle.std.specs.Prelude.{◌≡◌, ◌%◌, ◌≤◌, ℕ, List, length, take, drop};
+ghost use Rattle.std.specs.Str.{bytes_eq};
 ghost use Rattle.sha2.specs.Sha256.{sha256};
 ghost use Rattle.page_tree.specs.Pointers.{pointers_in};
-ghost use Rattle.uber_ring.specs.Seals.{FitsSeal, body_bytes, body_seal, is_body, pointers_bytes, seal_in, settings_bytes, signed_bytes, state_bytes, sums_bytes};
+ghost use Rattle.uber_ring.specs.Seals.{FitsSeal, body_bytes, body_seal, is_body, pointers_bytes, seal_in, seal_text, settings_bytes, signed_bytes, state_bytes, sums_bytes};
 ghost use Rattle.uber_ring.specs.declared.seal.Seal.{Seal};
 
 use crate::seal::Seal;
@@ -55,7 +56,7 @@ fn pointers_of(seal: &Seal) -> [u8; 240]
     ensures { result ≡ pointers_bytes seal.now }
 {
     let mut front = ArrayVec::new();
-    for pointer in seal.pointers {
+    'pointers: for pointer in seal.pointers {
         put(&mut front, &pointer.to_bytes());
     }
     full_array(front)
@@ -73,9 +74,10 @@ fn sums_of(seal: &Seal) -> [u8; 24]
     full_array(front)
 }
 
-/// The body of a seal.
-pub(crate) fn body_of(seal: &Seal) -> [u8; 4096]
-    ensures { result ≡ body_bytes seal.now }
+/// All that a body's digest is of.
+#[tactic(auto, unfolding(crate::specs::Seals::signed_bytes))]
+fn signed_of(seal: &Seal) -> [u8; 4064]
+    ensures { result ≡ signed_bytes seal.now }
 {
     let mut front = ArrayVec::new();
     put(&mut front, &settings_of(seal));
@@ -83,21 +85,42 @@ pub(crate) fn body_of(seal: &Seal) -> [u8; 4096]
     put(&mut front, &pointers_of(seal));
     put(&mut front, &sums_of(seal));
     pad_to(&mut front, SIGNED);
-    let digest = Sha256::digest(front.as_slice());
-    put(&mut front, &digest);
     full_array(front)
 }
 
-/// Whether bytes are a body: the text is in front, and at the end the digest of all before it.
-#[tactic(auto, unfolding(crate::specs::Seals::is_body))]
-fn has_form(body: &[u8; 4096]) -> bool
-    ensures { result ≡ is_body body.now }
+/// The body of a seal.
+#[tactic(auto, unfolding(crate::specs::Seals::body_bytes))]
+pub(crate) fn body_of(seal: &Seal) -> [u8; 4096]
+    ensures { result ≡ body_bytes seal.now }
 {
-    if body.split_at(8).0 != SEAL_TEXT.as_slice() {
-        return false;
-    }
+    let signed = signed_of(seal);
+    let mut front = ArrayVec::new();
+    put(&mut front, &signed);
+    put(&mut front, &Sha256::digest(&signed));
+    full_array(front)
+}
+
+/// Whether the text is in front.
+fn has_text(body: &[u8; 4096]) -> bool
+    ensures { result ≡ bytes_eq (take 8 body.now) seal_text }
+{
+    body.split_at(8).0 == SEAL_TEXT.as_slice()
+}
+
+/// Whether the last 32 bytes are the digest of all before them.
+fn has_digest(body: &[u8; 4096]) -> bool
+    ensures { result ≡ bytes_eq (drop 4064 body.now) (sha256 (take 4064 body.now)) }
+{
     let (signed, digest) = body.split_at(SIGNED);
     digest == Sha256::digest(signed).as_slice()
+}
+
+/// Whether bytes are a body.
+#[tactic(auto, unfolding(crate::specs::Seals::is_body))]
+fn is_whole(body: &[u8; 4096]) -> bool
+    ensures { result ≡ is_body body.now }
+{
+    has_text(body) && has_digest(body)
 }
 
 /// The pointers that 240 bytes spell, one behind the other.
@@ -110,7 +133,14 @@ fn pointers_at(bytes: &[u8]) -> [PagePtr; 6]
     let (third, rest) = (PagePtr::from_bytes(rest), rest.split_at(40).1);
     let (fourth, rest) = (PagePtr::from_bytes(rest), rest.split_at(40).1);
     let (fifth, rest) = (PagePtr::from_bytes(rest), rest.split_at(40).1);
-    [first, second, third, fourth, fifth, PagePtr::from_bytes(rest)]
+    [
+        first,
+        second,
+        third,
+        fourth,
+        fifth,
+        PagePtr::from_bytes(rest),
+    ]
 }
 
 /// The fields of a body, read at their offsets.
@@ -145,7 +175,7 @@ fn fields_of(body: &[u8; 4096]) -> Seal
 pub(crate) fn seal_of(body: &[u8; 4096], version: u32, slot: u32) -> Option<Seal>
     ensures { result ≡ body_seal version slot body.now }
 {
-    if !has_form(body) {
+    if !is_whole(body) {
         return None;
     }
     let seal = fields_of(body);
@@ -162,5 +192,4 @@ pub(crate) fn seal_of(body: &[u8; 4096], version: u32, slot: u32) -> Option<Seal
 pub fn seal_is_read_back()
     ensures len { (seal : Seal) → FitsSeal seal → length (body_bytes seal) ≡ 4096 }
     ensures back { (seal : Seal) → FitsSeal seal → body_seal seal.version (seal.group % 16) (body_bytes seal) ≡ Some seal }
-{
-}
+{}

@@ -31,7 +31,9 @@ pub(crate) fn open_gate_bytes() -> [u8; 4096]
 pub(crate) fn closed_gate_bytes() -> [u8; 4096]
     ensures { result ≡ closed_gate }
 {
-    [0; 4096]
+    let mut front = ArrayVec::new();
+    pad_to(&mut front, 4096);
+    full_array(front)
 }
 
 /// What is written to open a gate opens it, and what is written to close it doesn't.
@@ -40,5 +42,4 @@ pub fn gates_are_told_apart()
     ensures closes { is_open closed_gate ≡ false }
     ensures open_len { length open_gate ≡ 4096 }
     ensures closed_len { length closed_gate ≡ 4096 }
-{
-}
+{}

@@ -1,6 +1,6 @@
 ghost use Rattle.uber_ring.specs.Seals.{FitsSeal};
 
-use page_tree::{PagePtr, pointer_fits};
+use page_tree::{PagePtr, pointers_fit};
 
 /// The root of a pool image, as the sector of a seal has it.
 #[derive(Clone, Copy, Debug, PartialEq, Eq)]
@@ -46,7 +46,6 @@ pub struct Seal {
 pub fn seal_fits(seal: Seal)
     ensures { FitsSeal seal }
 {
-    for pointer in seal.pointers {
-        pointer_fits(pointer);
-    }
+    let pointers = seal.pointers;
+    pointers_fit(&pointers);
 }

@@ -48,7 +48,11 @@ const SLOT: u32 = 8;
 
 fn assert_bytes(rt: &impl Abort, body: &[u8; 4096], offset: usize, bytes: &[u8]) {
     assert!(rt; offset < 4096 && bytes.len() <= 4096 - offset);
-    assert_eq!(rt; body.split_at(offset).1.split_at(bytes.len()).0, bytes, "at {offset}");
+    assert_eq!(rt;
+        body.split_at(offset).1.split_at(bytes.len()).0,
+        bytes,
+        "at {offset}"
+    );
 }
 
 #[test]
@@ -56,12 +60,27 @@ fn each_field_stands_at_its_offset(rt: HostRuntime) {
     let body = body_of(&sample());
     assert_bytes(&rt, &body, 0, b"DDTSEAL1");
     assert_bytes(&rt, &body, 8, &[1, 0, 0, 0, 255, 0, 0, 0, 0x18, 0x17]);
-    assert_bytes(&rt, &body, 24, &[0x28, 0x27, 0x26, 0x25, 0x24, 0x23, 0x22, 0x21, 0x38]);
-    assert_bytes(&rt, &body, 40, &[0x44, 0x43, 0x42, 0x41, 0, 0, 0, 0, 0, 1, 2, 3]);
+    assert_bytes(
+        &rt,
+        &body,
+        24,
+        &[0x28, 0x27, 0x26, 0x25, 0x24, 0x23, 0x22, 0x21, 0x38],
+    );
+    assert_bytes(
+        &rt,
+        &body,
+        40,
+        &[0x44, 0x43, 0x42, 0x41, 0, 0, 0, 0, 0, 1, 2, 3],
+    );
     assert_bytes(&rt, &body, 62, &[14, 15, 0x58, 0x57]);
     assert_bytes(&rt, &body, 71, &[0x51, 0x68]);
     assert_bytes(&rt, &body, 79, &[0x61, 0x78]);
-    assert_bytes(&rt, &body, 87, &[0x71, 0x84, 0x83, 0x82, 0x81, 0x94, 0x93, 0x92, 0x91, 0xa1]);
+    assert_bytes(
+        &rt,
+        &body,
+        87,
+        &[0x71, 0x84, 0x83, 0x82, 0x81, 0x94, 0x93, 0x92, 0x91, 0xa1],
+    );
     assert_bytes(&rt, &body, 127, &[0xa1, 0xb1, 0, 0, 0, 0, 0, 0, 0, 0xb2]);
     assert_bytes(&rt, &body, 167, &[0xb2, 0xc1, 0]);
     assert_bytes(&rt, &body, 207, &[0xc2, 0xd1, 0]);
