@@ -1,0 +1,8 @@
+use Rattle.std.proofs.Common.{◌∙◌, ap, List, ℕ}
+use Rattle.byteorder.specs.Endian.{little_number}
+use Rattle.page_tree.proofs.Bytes.{number_at-drop}
+use Rattle.page_tree.proofs.fields.u64_at.Goals as goal
+
+pub returns : goal.returns
+returns c =
+    c.read_u64.ensures ∙ ap (λ (xs : List ℕ). little_number 8 xs) c.split_at.ensures.back ∙ number_at-drop 8 c.args.offset c.args.bytes.now

@@ -1,0 +1,22 @@
+//! Pages of a pool image, and the pointers that name them.
+//!
+//! A page is one sector. A `PagePtr` names a page by its sector and the SHA-256 of its bytes, so that
+//! who holds a pointer can tell whether what a disk gives is the page that was written. A pointer
+//! stands in other pages, and in the seal, as 40 bytes: the sector as a little-endian number, and the
+//! digest. The null pointer is 40 zeros, and names no page.
+//!
+//! `front` builds the bytes of a sector piece by piece, and `fields` reads what stands at an offset.
+//! Neither takes memory, and neither can fail: the caller proves that a part fits.
+//!
+//! The ring of seals and every writer and reader of pages stand on this crate.
+#![tactic(auto)]
+
+mod fault;
+pub mod fields;
+pub mod front;
+mod pointer;
+#[cfg(test)]
+mod tests;
+
+pub use fault::{FindFault, PageFault};
+pub use pointer::{PagePtr, null_is_zeros, pointer_fits, pointers_fit, read_is_spelled, spelled_is_read};

@@ -1,0 +1,81 @@
+ghost use Rattle.std.specs.Prelude.{◌≡◌, ◌≤◌, ◌++◌, List, ℕ, length, take};
+ghost use Rattle.std.specs.List.{AllByRecursion};
+ghost use Rattle.page_tree.specs.Bytes.{AreBytes, zeros};
+ghost use Rattle.page_tree.specs.Pointers.{FitsPointer, null_pointer, pointer_bytes, pointer_in};
+ghost use Rattle.page_tree.specs.declared.pointer.PagePtr.{PagePtr};
+
+use crate::fields::{array_at, u64_at};
+use crate::front::{full_array, put, put_u64};
+use arrayvec::ArrayVec;
+
+/// Names a page: where it lies, and what it says.
+#[derive(Clone, Copy, Debug, PartialEq, Eq)]
+pub struct PagePtr {
+    /// The number of the page's sector.
+    pub sector: u64,
+    /// The SHA-256 of the page's 4,096 bytes.
+    pub digest: [u8; 32],
+}
+
+impl PagePtr {
+    /// The pointer to no page.
+    pub const NULL: PagePtr = PagePtr {
+        sector: 0,
+        digest: [0; 32],
+    };
+
+    /// The 40 bytes that spell the pointer.
+    #[tactic(auto, unfolding(crate::specs::Pointers::pointer_bytes))]
+    pub fn to_bytes(&self) -> [u8; 40]
+        ensures { result ≡ pointer_bytes self.now }
+    {
+        let mut front = ArrayVec::new();
+        put_u64(&mut front, self.sector);
+        put(&mut front, &self.digest);
+        full_array(front)
+    }
+
+    /// The pointer that the first 40 bytes spell.
+    #[tactic(auto, unfolding(crate::specs::Pointers::pointer_in))]
+    pub fn from_bytes(bytes: &[u8]) -> PagePtr
+        requires { 40 ≤ length bytes.now }
+        ensures { result ≡ pointer_in bytes.now }
+    {
+        PagePtr {
+            sector: u64_at(bytes, 0),
+            digest: array_at(bytes, 8),
+        }
+    }
+}
+
+/// A pointer that fits is read back, whatever follows it.
+pub fn spelled_is_read()
+    ensures len { (pointer : PagePtr) → FitsPointer pointer → length (pointer_bytes pointer) ≡ 40 }
+    ensures back { (pointer : PagePtr) (rest : List ℕ) → FitsPointer pointer → pointer_in (pointer_bytes pointer ++ rest) ≡ pointer }
+{}
+
+/// Bytes are spelled by what is read of them.
+pub fn read_is_spelled()
+    ensures fits { (bytes : List ℕ) → AreBytes bytes → 40 ≤ length bytes → FitsPointer (pointer_in bytes) }
+    ensures again { (bytes : List ℕ) → AreBytes bytes → 40 ≤ length bytes → pointer_bytes (pointer_in bytes) ≡ take 40 bytes }
+{}
+
+/// The null pointer is 40 zeros.
+pub fn null_is_zeros()
+    ensures value { PagePtr.NULL ≡ null_pointer }
+    ensures bytes { pointer_bytes null_pointer ≡ zeros 40 }
+{}
+
+/// A pointer that code has in hand fits.
+pub fn pointer_fits(pointer: PagePtr)
+    ensures { FitsPointer pointer }
+{}
+
+/// Pointers that code has in hand fit.
+pub fn pointers_fit(pointers: &[PagePtr])
+    ensures { AllByRecursion FitsPointer pointers.now }
+{
+    'pointers: for pointer in pointers {
+        pointer_fits(*pointer);
+    }
+}

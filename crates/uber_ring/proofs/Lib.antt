@@ -1,0 +1,4 @@
+pub mod Digests
+pub mod Gates
+pub mod Parts
+pub mod SealLaws

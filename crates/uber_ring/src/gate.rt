@@ -1,0 +1,45 @@
+ghost use Rattle.std.specs.Prelude.{◌≡◌, true, false, length};
+ghost use Rattle.uber_ring.specs.Seals.{is_open, open_gate, closed_gate};
+
+use arrayvec::ArrayVec;
+use page_tree::front::{full_array, pad_to, put};
+
+/// What an open gate begins with.
+const OPEN_TEXT: [u8; 8] = *b"DDTOPEN1";
+
+/// Whether a gate is open.
+#[tactic(auto, unfolding(crate::specs::Seals::is_open))]
+pub(crate) fn is_gate_open(gate: &[u8; 4096]) -> bool
+    ensures { result ≡ is_open gate.now }
+{
+    gate.split_at(8).0 == OPEN_TEXT.as_slice()
+}
+
+/// What an open gate is written as.
+#[tactic(auto, unfolding(crate::specs::Seals::open_gate))]
+pub(crate) fn open_gate_bytes() -> [u8; 4096]
+    ensures { result ≡ open_gate }
+{
+    let mut front = ArrayVec::new();
+    put(&mut front, &OPEN_TEXT);
+    pad_to(&mut front, 4096);
+    full_array(front)
+}
+
+/// What a closed gate is written as.
+#[tactic(auto, unfolding(crate::specs::Seals::closed_gate))]
+pub(crate) fn closed_gate_bytes() -> [u8; 4096]
+    ensures { result ≡ closed_gate }
+{
+    let mut front = ArrayVec::new();
+    pad_to(&mut front, 4096);
+    full_array(front)
+}
+
+/// What is written to open a gate opens it, and what is written to close it doesn't.
+pub fn gates_are_told_apart()
+    ensures opens { is_open open_gate ≡ true }
+    ensures closes { is_open closed_gate ≡ false }
+    ensures open_len { length open_gate ≡ 4096 }
+    ensures closed_len { length closed_gate ≡ 4096 }
+{}

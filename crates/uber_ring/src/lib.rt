@@ -1,0 +1,23 @@
+//! The ring of seals: the roots of a pool image.
+//!
+//! A seal is all that a pool's program has to know to find the rest: the pool's settings, the state of
+//! the table's logs, the pointers to the first pages, and sums that the pages must agree with. A seal's
+//! body fills one sector, and its last 32 bytes are the SHA-256 of all before them, so that a body that
+//! was written in part is none. The group of a seal modulo 16 is the slot of the ring that it belongs
+//! in, and a body in another slot is none either.
+//!
+//! A gate is a sector that is open exactly where its first 8 bytes say so, and whatever is behind them.
+//!
+//! What a seal's bytes are is written down in `specs/Seals.antt`. The laws below say that a seal is
+//! read back from its body. Nothing here takes memory.
+#![tactic(auto)]
+
+mod body;
+mod gate;
+mod seal;
+#[cfg(test)]
+mod tests;
+
+pub use body::seal_is_read_back;
+pub use gate::gates_are_told_apart;
+pub use seal::{Seal, seal_fits};
