@@ -1,9 +1,9 @@
 -- What a disk in memory keeps still agrees after each of its calls, and what these leave.
-use Rattle.std.proofs.Common.{◌≡◌, ℕ, ◌+◌, ◌-◌, ◌<◌, ◌≤◌, List, [], ◌∷◌, ◌++◌, Some, length, replicate, refl, sym, ◌∙◌, ap, subst, arith}
+use Rattle.std.proofs.Common.{◌≡◌, ℕ, ◌-◌, ◌<◌, ◌≤◌, List, [], ◌∷◌, ◌++◌, Some, length, replicate, refl, sym, ◌∙◌, ap, subst, arith}
 use Rattle.std.specs.Prelude.{slice_set, All}
-use Rattle.std.proofs.lemmas.List.{append-nil, length-replicate, get_or-replicate, length-set}
+use Rattle.std.proofs.lemmas.List.{append-nil, length-replicate, get_or-replicate}
 use Rattle.std.proofs.lemmas.List.Elements.{All-push}
-use Rattle.disk_model.specs.Images.{Image, IsImage, Torn, sector_at, sector_bytes, zero_sector}
+use Rattle.disk_model.specs.Images.{Image, IsImage, Torn, sector_bytes, zero_sector}
 use Rattle.disk_model.specs.Crashes.{Elapses, Follows, NothingPending}
 use Rattle.disk_model.specs.Memory.{Cells, MayLeave, WasLeft, IsKept, IsWithin, padded, cells_after, cells_now, after_call, crash_image}
 use Rattle.disk_model.specs.declared.call.Call.{Call}

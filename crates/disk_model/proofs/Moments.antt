@@ -1,5 +1,5 @@
 -- How what a crash leaves at each moment of a run goes on from call to call.
-use Rattle.std.proofs.Common.{ℕ, ◌≤◌, inl, inr, ⊎_elim, arith}
+use Rattle.std.proofs.Common.{ℕ, inl, inr, ⊎_elim, arith}
 use Rattle.disk_model.specs.Images.{Image}
 use Rattle.disk_model.specs.Crashes.{Elapses, LeavesOnly}
 

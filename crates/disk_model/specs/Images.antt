@@ -1,5 +1,5 @@
 -- What a disk holds: sectors of 4,096 bytes, and what a call or a crash makes of them.
-use Rattle.std.specs.Prelude.{◌≡◌, ◌≢◌, ◌<◌, ◌⊎◌, ⊤, ℕ, List, [], length, replicate, slice_index_or, slice_set, Option, Some, None}
+use Rattle.std.specs.Prelude.{◌≡◌, ◌≢◌, ◌<◌, ⊤, ℕ, List, [], length, replicate, slice_index_or, slice_set, Option, Some, None}
 
 -- the sectors in the order of their numbers
 abbrev pub Image : Type 0

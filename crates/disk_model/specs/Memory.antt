@@ -1,5 +1,5 @@
 -- What contracts see of a disk in memory: what it held when it was made, the calls that it did since, and its counts.
-use Rattle.std.specs.Prelude.{◌≡◌, ◌<◌, ◌≤◌, ⊤, ℕ, ◌-◌, ◌%◌, Bool, false, ◌==◌, List, [], ◌∷◌, ◌++◌, length, take, fold, replicate, slice_set, Option, None, Result, MatchResult, All, if◌then◌else◌}
+use Rattle.std.specs.Prelude.{◌≡◌, ◌<◌, ◌≤◌, ⊤, ℕ, ◌-◌, ◌%◌, Bool, false, ◌==◌, List, [], ◌∷◌, ◌++◌, length, take, fold, replicate, slice_set, None, Result, MatchResult, All, if◌then◌else◌}
 use Rattle.std.specs.List.{list_any}
 use Rattle.disk_model.specs.Images.{Image, IsImage, sector_at, sector_bytes, zero_sector}
 use Rattle.disk_model.specs.Faults.{one_more}

@@ -1,8 +1,8 @@
 -- That what a disk in memory tells of crashes at earlier moments agrees with what it tells of a crash now.
-use Rattle.std.specs.Prelude.{◌≡◌, ◌≤◌, ℕ, List, length, take}
+use Rattle.std.specs.Prelude.{◌≤◌, ℕ, List, length}
 use Rattle.std.proofs.Common.{subst, sym, arith}
 use Rattle.std.proofs.lemmas.List.{take_all}
-use Rattle.disk_model.specs.Images.{Image, IsImage}
+use Rattle.disk_model.specs.Images.{Image}
 use Rattle.disk_model.specs.Memory.{MemoryDisk, MayLeave, MayBeLeft, WasLeftSince, cells_after}
 use Rattle.disk_model.specs.declared.call.Call.{Call}
 

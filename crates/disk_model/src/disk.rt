@@ -107,3 +107,12 @@ pub trait Disk: Sync {
     /// A crash leaves so many whole sectors.
     ghost leaves_images: { (disk : Self) (c : Image) → may_leave disk c → IsImage (sectors_of disk) c };
 }
+
+/// What a crash at this moment may leave, for whoever puts the moments of a run together. It does
+/// nothing: its clauses are the trait's laws at this disk.
+pub fn crash_laws<D: Disk>(disk: &D)
+    ensures now { (c : Image) → D.left_since disk.now (D.clock disk.now) c → D.may_leave disk.now c }
+    ensures counted { (since : ℕ) (c : Image) → since ≤ D.clock disk.now → D.may_leave disk.now c → D.left_since disk.now since c }
+    ensures images { (c : Image) → D.may_leave disk.now c → IsImage (D.sectors_of disk.now) c }
+{
+}

@@ -24,7 +24,7 @@ mod mem_disk;
 mod mem_meter;
 
 pub use call::{Call, SectorWrite};
-pub use disk::{Disk, Failed, SECTOR_BYTES};
+pub use disk::{Disk, Failed, SECTOR_BYTES, crash_laws};
 pub use fault_plan::{FaultPlan, ReadSpan};
 pub use mem_disk::MemDisk;
 pub use mem_meter::MemMeter;

@@ -2,3 +2,4 @@ pub mod Digests
 pub mod Gates
 pub mod Parts
 pub mod SealLaws
+pub mod RingLaws

@@ -1,5 +1,5 @@
 -- What was written since the last barrier is in place from now on.
-use Rattle.std.proofs.Common.{rules, ◌≡◌, length, subst}
+use Rattle.std.proofs.Common.{rules, length, subst}
 use Rattle.disk_model.specs.Images.{Image}
 use Rattle.disk_model.specs.Crashes.{Elapses}
 use Rattle.disk_model.specs.Memory.{MemoryDisk, MayBeLeft, MayLeave, WasLeft, WasLeftSince, cells_after, padded}

@@ -1,6 +1,6 @@
 -- The write goes behind the record, and its bytes into the sector.
-use Rattle.std.proofs.Common.{rules, ◌≡◌, ℕ, ◌++◌, [], ◌∷◌, length, sym, subst}
-use Rattle.std.specs.Prelude.{List, slice_set}
+use Rattle.std.proofs.Common.{rules, length, sym, subst}
+use Rattle.std.specs.Prelude.{slice_set}
 use Rattle.std.proofs.lemmas.List.{length-set}
 use Rattle.disk_model.specs.Images.{Torn}
 use Rattle.disk_model.specs.Crashes.{Elapses, Follows}

@@ -1,0 +1,134 @@
+ghost use Rattle.std.specs.Prelude.{◌≡◌, ◌≤◌, ◌<◌, ◌%◌, ◌*◌, ◌+◌, ℕ, Option, IfOk, IfSome, OnOk, OnErr};
+ghost use Rattle.disk_model.specs.Images.{Holds, MayTouch};
+ghost use Rattle.disk_model.specs.Crashes.{LeavesOnly, NothingPending};
+ghost use Rattle.disk_model.specs.Faults.{HasCause};
+ghost use Rattle.uber_ring.specs.Seals.{body_bytes, open_gate};
+ghost use Rattle.uber_ring.specs.Ring.{slot_of, gate_sector, body_sector, gate_is_open, seal_at, higher, newest, ClosingLeaves, OpeningLeaves, WritingLeaves, Closes, MayClose};
+
+use crate::body::{body_of, seal_of};
+use crate::gate::{closed_gate_bytes, is_gate_open, open_gate_bytes};
+use crate::seal::Seal;
+use disk_model::{Disk, Failed, crash_laws};
+
+/// How many slots the ring has.
+pub const SLOTS: u32 = 16;
+
+/// How many sectors a pool has at the least.
+pub const FEWEST_SECTORS: u64 = 2048;
+
+/// The seal that counts: the valid one of the highest group, for a program that reads this version.
+/// `None` exactly where no slot is valid. Takes no memory.
+pub fn find<D: Disk>(disk: &D, meter: &mut D::Meter, version: u32) -> Result<Option<Seal>, Failed>
+    ensures found { IfOk result (λ found. IfSome (D.seen disk.now) (λ image. found ≡ newest version image)) }
+    ensures cause { HasCause (D.meter_faults meter.old) (D.meter_faults meter.new) result }
+{
+    if disk.sectors() < FEWEST_SECTORS {
+        return Ok(None);
+    }
+    let mut best = None;
+    'slots: for slot in 0..SLOTS {
+        best = higher(best, valid_seal(disk, meter, version, slot)?);
+    }
+    Ok(best)
+}
+
+/// The one of the higher group.
+fn higher(best: Option<Seal>, seal: Option<Seal>) -> Option<Seal>
+    ensures { result ≡ higher best seal }
+{
+    match (best, seal) {
+        (None, seal) => seal,
+        (Some(best), None) => Some(best),
+        (Some(best), Some(seal)) => Some(if best.group < seal.group { seal } else { best }),
+    }
+}
+
+/// The valid seal of a slot. The body is read only where the gate is open.
+fn valid_seal<D: Disk>(
+    disk: &D,
+    meter: &mut D::Meter,
+    version: u32,
+    slot: u32,
+) -> Result<Option<Seal>, Failed>
+    requires pool { 2048 ≤ D.sectors_of disk.now }
+    requires slot { slot < 16 }
+    ensures seal { IfOk result (λ seal. IfSome (D.seen disk.now) (λ image. seal ≡ seal_at version image slot)) }
+    ensures cause { HasCause (D.meter_faults meter.old) (D.meter_faults meter.new) result }
+{
+    if !gate_open(disk, meter, slot)? {
+        return Ok(None);
+    }
+    let mut body = [0u8; 4096];
+    disk.read(meter, 2 * u64::from(slot) + 1, &mut body)?;
+    Ok(seal_of(&body, version, slot))
+}
+
+/// Whether a slot's gate reads open. Takes no memory.
+pub fn gate_open<D: Disk>(disk: &D, meter: &mut D::Meter, slot: u32) -> Result<bool, Failed>
+    requires ring { 32 ≤ D.sectors_of disk.now }
+    requires slot { slot < 16 }
+    ensures open { IfOk result (λ open. IfSome (D.seen disk.now) (λ image. open ≡ gate_is_open image slot)) }
+    ensures cause { HasCause (D.meter_faults meter.old) (D.meter_faults meter.new) result }
+{
+    let mut gate = [0u8; 4096];
+    disk.read(meter, 2 * u64::from(slot), &mut gate)?;
+    Ok(is_gate_open(&gate))
+}
+
+/// Closes a slot whose gate was open, and makes a barrier in any case. A gate that was closed isn't
+/// written: a torn write of it could read as open before a body that an earlier attempt left.
+/// Takes no memory.
+pub fn close_slot<D: Disk>(disk: &mut D, slot: u32, was_open: bool) -> Result<(), Failed>
+    requires ring { 32 ≤ D.sectors_of disk.old }
+    requires slot { slot < 16 }
+    ensures sectors { D.sectors_of disk.new ≡ D.sectors_of disk.old }
+    ensures closed { OnOk result (Closes slot was_open (D.seen disk.old) (D.seen disk.new)) }
+    ensures touched { OnErr result (MayClose slot was_open (D.seen disk.old) (D.seen disk.new)) }
+    ensures durable { OnOk result (NothingPending (D.seen disk.new) (D.may_leave disk.new)) }
+    ensures any_moment { LeavesOnly D.clock D.left_since disk.old disk.new
+        (ClosingLeaves slot was_open (D.may_leave disk.old)) }
+    ensures reads { D.read_faults disk.old ≤ D.read_faults disk.new }
+    ensures cause { HasCause (D.write_faults disk.old) (D.write_faults disk.new) result }
+{
+    crash_laws(disk);
+    if was_open {
+        disk.write(2 * u64::from(slot), &closed_gate_bytes())?;
+    }
+    disk.barrier()
+}
+
+/// Writes the body of a seal into its group's slot, with no barrier behind it. Takes no memory.
+pub fn write_body<D: Disk>(disk: &mut D, seal: &Seal) -> Result<(), Failed>
+    requires ring { 32 ≤ D.sectors_of disk.old }
+    ensures sectors { D.sectors_of disk.new ≡ D.sectors_of disk.old }
+    ensures written { OnOk result (Holds (D.seen disk.old) (D.seen disk.new)
+        (body_sector (slot_of seal.now.group)) (body_bytes seal.now)) }
+    ensures touched { OnErr result (MayTouch (D.seen disk.old) (D.seen disk.new)
+        (body_sector (slot_of seal.now.group))) }
+    ensures any_moment { LeavesOnly D.clock D.left_since disk.old disk.new
+        (WritingLeaves (slot_of seal.now.group) (D.may_leave disk.old)) }
+    ensures reads { D.read_faults disk.old ≤ D.read_faults disk.new }
+    ensures cause { HasCause (D.write_faults disk.old) (D.write_faults disk.new) result }
+{
+    crash_laws(disk);
+    let slot = seal.group % u64::from(SLOTS);
+    disk.write(2 * slot + 1, &body_of(seal))
+}
+
+/// Opens a slot's gate, and makes a barrier. Takes no memory.
+pub fn open_slot<D: Disk>(disk: &mut D, slot: u32) -> Result<(), Failed>
+    requires ring { 32 ≤ D.sectors_of disk.old }
+    requires slot { slot < 16 }
+    ensures sectors { D.sectors_of disk.new ≡ D.sectors_of disk.old }
+    ensures opened { OnOk result (Holds (D.seen disk.old) (D.seen disk.new) (gate_sector slot) open_gate) }
+    ensures touched { OnErr result (MayTouch (D.seen disk.old) (D.seen disk.new) (gate_sector slot)) }
+    ensures durable { OnOk result (NothingPending (D.seen disk.new) (D.may_leave disk.new)) }
+    ensures any_moment { LeavesOnly D.clock D.left_since disk.old disk.new
+        (OpeningLeaves slot (D.may_leave disk.old)) }
+    ensures reads { D.read_faults disk.old ≤ D.read_faults disk.new }
+    ensures cause { HasCause (D.write_faults disk.old) (D.write_faults disk.new) result }
+{
+    crash_laws(disk);
+    disk.write(2 * u64::from(slot), &open_gate_bytes())?;
+    disk.barrier()
+}
