@@ -1,7 +1,7 @@
 -- How what a crash leaves at each moment of a run goes on from call to call.
 use Rattle.std.proofs.Common.{ℕ, inl, inr, ⊎_elim, arith}
 use Rattle.disk_model.specs.Images.{Image}
-use Rattle.disk_model.specs.Crashes.{Elapses, LeavesOnly}
+use Rattle.disk_model.specs.Crashes.{Elapses, Follows, LeavesOnly}
 
 module _ {D : Type 0} (clock : D → ℕ) (left_since : D → ℕ → Image → Type 0) where
   -- before the first call
@@ -32,3 +32,23 @@ module _ {D : Type 0} (clock : D → ℕ) (left_since : D → ℕ → Image → 
     each = λ c left. less c (run.each c left);
     before = λ since c earlier left. ⊎_elim (λ was. inl was) (λ now. inr (less c now)) (run.before since c earlier left);
   }
+
+  -- one write, after which a crash leaves what a step from an earlier outcome leads to
+  module _ (may_leave : D → Image → Type 0) (Step : Image → Image → Type 0) (old : D) (now : (c : Image) → left_since old (clock old) c → may_leave old c) (still : (c : Image) → may_leave old c → Step c c) where
+    abbrev Stepped : Image → Type 0
+    Stepped c = (d : Image) × may_leave old d × Step d c
+
+    began : LeavesOnly clock left_since old old Stepped
+    began = started old Stepped (λ c left. (c, now c left, still c (now c left)))
+
+    pub by_write : (mid : D) → Follows Step (may_leave old) (may_leave mid) → Elapses (clock old) (clock mid) (left_since old) (left_since mid) (may_leave mid) → LeavesOnly clock left_since old mid Stepped
+    by_write mid follows time = goes_on old old mid Stepped (may_leave mid) began time follows
+
+    -- and a barrier behind it
+    pub by_write_and_barrier : (mid new : D) → Follows Step (may_leave old) (may_leave mid) → Elapses (clock old) (clock mid) (left_since old) (left_since mid) (may_leave mid) → ((c : Image) → may_leave new c → may_leave mid c)
+        → Elapses (clock mid) (clock new) (left_since mid) (left_since new) (may_leave new) → LeavesOnly clock left_since old new Stepped
+    by_write_and_barrier mid new follows time shrinks later = goes_on old mid new Stepped (may_leave new) (by_write mid follows time) later (λ c left. follows c (shrinks c left))
+
+    -- a barrier alone
+    pub by_barrier : (new : D) → ((c : Image) → may_leave new c → may_leave old c) → Elapses (clock old) (clock new) (left_since old) (left_since new) (may_leave new) → LeavesOnly clock left_since old new Stepped
+    by_barrier new shrinks time = goes_on old old new Stepped (may_leave new) began time (λ c left. (c, shrinks c left, still c (shrinks c left)))

@@ -3,3 +3,4 @@ pub mod Gates
 pub mod Parts
 pub mod SealLaws
 pub mod RingLaws
+pub mod Told

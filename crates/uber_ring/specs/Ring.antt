@@ -63,7 +63,7 @@ pub record GateTorn (slot : ℕ) (old new : Image) : Type 0 where
   pub torn : Torn (gate_sector slot) old new
   pub elsewhere : SameElsewhere slot old new
   pub own : (version : ℕ) → (seal_at version new slot ≡ None) ⊎ (seal_at version new slot ≡ behind version old slot)
-  pub behind : (version : ℕ) → behind version new slot ≡ behind version old slot
+  pub hidden : (version : ℕ) → behind version new slot ≡ behind version old slot
 
 -- what a write of a slot's body may leave: behind a closed gate, no valid seal
 pub record BodyTorn (slot : ℕ) (old new : Image) : Type 0 where

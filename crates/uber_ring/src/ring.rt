@@ -1,5 +1,5 @@
 ghost use Rattle.std.specs.Prelude.{◌≡◌, ◌≤◌, ◌<◌, ◌%◌, ◌*◌, ◌+◌, ℕ, Option, IfOk, IfSome, OnOk, OnErr};
-ghost use Rattle.disk_model.specs.Images.{Holds, MayTouch};
+ghost use Rattle.disk_model.specs.Images.{Holds, MayTouch, TellsImage};
 ghost use Rattle.disk_model.specs.Crashes.{LeavesOnly, NothingPending};
 ghost use Rattle.disk_model.specs.Faults.{HasCause};
 ghost use Rattle.uber_ring.specs.Seals.{body_bytes, open_gate};
@@ -51,6 +51,7 @@ fn valid_seal<D: Disk>(
     slot: u32,
 ) -> Result<Option<Seal>, Failed>
     requires pool { 2048 ≤ D.sectors_of disk.now }
+    requires told { TellsImage (D.sectors_of disk.now) (D.seen disk.now) }
     requires slot { slot < 16 }
     ensures seal { IfOk result (λ seal. IfSome (D.seen disk.now) (λ image. seal ≡ seal_at version image slot)) }
     ensures cause { HasCause (D.meter_faults meter.old) (D.meter_faults meter.new) result }
@@ -59,7 +60,7 @@ fn valid_seal<D: Disk>(
         return Ok(None);
     }
     let mut body = [0u8; 4096];
-    disk.read(meter, 2 * u64::from(slot) + 1, &mut body)?;
+    disk.read(meter, 2 * slot as u64 + 1, &mut body)?;
     Ok(seal_of(&body, version, slot))
 }
 
@@ -67,11 +68,11 @@ fn valid_seal<D: Disk>(
 pub fn gate_open<D: Disk>(disk: &D, meter: &mut D::Meter, slot: u32) -> Result<bool, Failed>
     requires ring { 32 ≤ D.sectors_of disk.now }
     requires slot { slot < 16 }
-    ensures open { IfOk result (λ open. IfSome (D.seen disk.now) (λ image. open ≡ gate_is_open image slot)) }
+    ensures gate { IfOk result (λ is_open. IfSome (D.seen disk.now) (λ image. is_open ≡ gate_is_open image slot)) }
     ensures cause { HasCause (D.meter_faults meter.old) (D.meter_faults meter.new) result }
 {
     let mut gate = [0u8; 4096];
-    disk.read(meter, 2 * u64::from(slot), &mut gate)?;
+    disk.read(meter, 2 * slot as u64, &mut gate)?;
     Ok(is_gate_open(&gate))
 }
 
@@ -91,9 +92,10 @@ pub fn close_slot<D: Disk>(disk: &mut D, slot: u32, was_open: bool) -> Result<()
     ensures cause { HasCause (D.write_faults disk.old) (D.write_faults disk.new) result }
 {
     crash_laws(disk);
-    if was_open {
-        disk.write(2 * u64::from(slot), &closed_gate_bytes())?;
+    if !was_open {
+        return disk.barrier();
     }
+    disk.write(2 * slot as u64, &closed_gate_bytes())?;
     disk.barrier()
 }
 
@@ -111,7 +113,7 @@ pub fn write_body<D: Disk>(disk: &mut D, seal: &Seal) -> Result<(), Failed>
     ensures cause { HasCause (D.write_faults disk.old) (D.write_faults disk.new) result }
 {
     crash_laws(disk);
-    let slot = seal.group % u64::from(SLOTS);
+    let slot = seal.group % SLOTS as u64;
     disk.write(2 * slot + 1, &body_of(seal))
 }
 
@@ -129,6 +131,6 @@ pub fn open_slot<D: Disk>(disk: &mut D, slot: u32) -> Result<(), Failed>
     ensures cause { HasCause (D.write_faults disk.old) (D.write_faults disk.new) result }
 {
     crash_laws(disk);
-    disk.write(2 * u64::from(slot), &open_gate_bytes())?;
+    disk.write(2 * slot as u64, &open_gate_bytes())?;
     disk.barrier()
 }
