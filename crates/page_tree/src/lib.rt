@@ -15,8 +15,10 @@ mod fault;
 pub mod fields;
 pub mod front;
 mod pointer;
+mod reader;
 #[cfg(test)]
 mod tests;
 
 pub use fault::{FindFault, PageFault};
+pub use reader::{PageReader, PlainReader};
 pub use pointer::{PagePtr, null_is_zeros, pointer_fits, pointers_fit, read_is_spelled, spelled_is_read};
