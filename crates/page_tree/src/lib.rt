@@ -17,8 +17,12 @@ pub mod front;
 mod pointer;
 mod reader;
 #[cfg(test)]
+mod reader_tests;
+#[cfg(test)]
 mod tests;
 
 pub use fault::{FindFault, PageFault};
+pub use pointer::{
+    PagePtr, null_is_zeros, pointer_fits, pointers_fit, read_is_spelled, spelled_is_read,
+};
 pub use reader::{PageReader, PlainReader};
-pub use pointer::{PagePtr, null_is_zeros, pointer_fits, pointers_fit, read_is_spelled, spelled_is_read};

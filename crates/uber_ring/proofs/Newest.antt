@@ -37,9 +37,9 @@ module _ (seals : ℕ → Option Seal) where
   stands_in zero a is = absurd (cc is)
   stands_in (suc count) a is =
       ⊎_elim
-          (λ first. let found = stands_in count a first.0 in (found.0, omega (arith, found.1), found.2))
-          (λ last. (count, omega arith, last.0))
-          (higher_is (highest seals count) (seals count) a is)
+      (λ first. let found = stands_in count a first.0 in (found.0, omega (arith, found.1), found.2))
+      (λ last. (count, omega arith, last.0))
+      (higher_is (highest seals count) (seals count) a is)
 
   weaker : (x : Option Seal) (a : Seal) → IfSome x (λ b. b.group < a.group) → IfSome x (λ b. b.group ≤ a.group)
   weaker None a less = tt
@@ -51,9 +51,9 @@ module _ (seals : ℕ → Option Seal) where
   all_none (suc count) none slot within =
       let parts = no_higher (highest seals count) (seals count) none in
       ⊎_elim
-          (λ (here : slot ≡ count). ap seals here ∙ parts.1)
-          (λ (other : slot ≢ count). all_none count parts.0 slot (inside within other))
-          (cases_eq slot count)
+      (λ (here : slot ≡ count). ap seals here ∙ parts.1)
+      (λ (other : slot ≢ count). all_none count parts.0 slot (inside within other))
+      (cases_eq slot count)
     where
       inside : slot < suc count → slot ≢ count → slot < count
       inside w o = grind (arith, w, o)
@@ -72,15 +72,15 @@ module _ (seals : ℕ → Option Seal) where
   none_higher zero a is slot within = absurd (omega (arith, within))
   none_higher (suc count) a is slot within =
       ⊎_elim
-          (λ first. ⊎_elim
-              (λ (here : slot ≡ count). subst (λ s. IfSome (seals s) (λ b. b.group ≤ a.group)) (sym here) first.1)
-              (λ (other : slot ≢ count). none_higher count a first.0 slot (inside within other))
-              (cases_eq slot count))
-          (λ last. ⊎_elim
-              (λ (here : slot ≡ count). subst (λ s. IfSome (seals s) (λ b. b.group ≤ a.group)) (sym here) (subst (λ (o : Option Seal). IfSome o (λ b. b.group ≤ a.group)) (sym last.0) (omega arith)))
-              (λ (other : slot ≢ count). lower (highest seals count) refl (λ best some. none_higher count best some slot (inside within other)) (λ none. all_none count none slot (inside within other)) last.1)
-              (cases_eq slot count))
-          (higher_is (highest seals count) (seals count) a is)
+      (λ first. ⊎_elim
+      (λ (here : slot ≡ count). subst (λ s. IfSome (seals s) (λ b. b.group ≤ a.group)) (sym here) first.1)
+      (λ (other : slot ≢ count). none_higher count a first.0 slot (inside within other))
+      (cases_eq slot count))
+      (λ last. ⊎_elim
+      (λ (here : slot ≡ count). subst (λ s. IfSome (seals s) (λ b. b.group ≤ a.group)) (sym here) (subst (λ (o : Option Seal). IfSome o (λ b. b.group ≤ a.group)) (sym last.0) (omega arith)))
+      (λ (other : slot ≢ count). lower (highest seals count) refl (λ best some. none_higher count best some slot (inside within other)) (λ none. all_none count none slot (inside within other)) last.1)
+      (cases_eq slot count))
+      (higher_is (highest seals count) (seals count) a is)
     where
       inside : slot < suc count → slot ≢ count → slot < count
       inside w o = grind (arith, w, o)
@@ -99,9 +99,9 @@ module _ (seals : ℕ → Option Seal) where
   alone_highest zero slot a within is below = absurd (omega (arith, within))
   alone_highest (suc count) slot a within is below =
       ⊎_elim
-          (λ (here : slot ≡ count). over (highest seals count) refl (subst (λ s. seals s ≡ Some a) here is) here)
-          (λ (other : slot ≢ count). under (seals count) (alone_highest count slot a (inside within other) is (λ o w differs. below o (omega (arith, w)) differs)) (below count (omega arith) (λ same. other (sym same))))
-          (cases_eq slot count)
+      (λ (here : slot ≡ count). over (highest seals count) refl (subst (λ s. seals s ≡ Some a) here is) here)
+      (λ (other : slot ≢ count). under (seals count) (alone_highest count slot a (inside within other) is (λ o w differs. below o (omega (arith, w)) differs)) (below count (omega arith) (λ same. other (sym same))))
+      (cases_eq slot count)
     where
       inside : slot < suc count → slot ≢ count → slot < count
       inside w o = grind (arith, w, o)
@@ -136,9 +136,9 @@ in_its_slot version slot image a is =
     of_test : (t : Bool) (seal : Seal) → ((seal.group % 16 == slot) ≡ false → t ≡ false) → (if t then Some seal else None) ≡ Some a → slot_of a.group ≡ slot
     of_test true seal wrong same =
         ⊎_elim
-            (λ fits. ap (λ (s : Seal). s.group % 16) (sym (same_seal seal a same)) ∙ fits.1)
-            (λ misfits. absurd (cc (wrong misfits.0)))
-            (eqb_tells (seal.group % 16) slot)
+        (λ fits. ap (λ (s : Seal). s.group % 16) (sym (same_seal seal a same)) ∙ fits.1)
+        (λ misfits. absurd (cc (wrong misfits.0)))
+        (eqb_tells (seal.group % 16) slot)
     of_test false seal wrong same = absurd (cc same)
 
     through_body : (t : Bool) (body : List ℕ) → (if t then body_seal version slot body else None) ≡ Some a → slot_of a.group ≡ slot
@@ -184,9 +184,9 @@ module _ (version slot : ℕ) (old new : Image) (within : slot < slot_count) (el
       below : (other : ℕ) → other < slot_count → other ≢ found.0 → IfSome (seal_at version new other) (λ b. b.group < a.group)
       below other inside unlike =
           ⊎_elim
-              (λ (here : other ≡ slot). subst (λ s. IfSome (seal_at version new s) (λ b. b.group < a.group)) (sym here) less)
-              (λ (there : other ≢ slot). lower_group (seal_at version new other) a.group (distinct other (seal_at version new other) refl unlike (others a is other inside there)))
-              (cases_eq other slot)
+          (λ (here : other ≡ slot). subst (λ s. IfSome (seal_at version new s) (λ b. b.group < a.group)) (sym here) less)
+          (λ (there : other ≢ slot). lower_group (seal_at version new other) a.group (distinct other (seal_at version new other) refl unlike (others a is other inside there)))
+          (cases_eq other slot)
 
   -- a slot that now has a seal of a higher group has the one that counts
   pub newest_becomes : (a next : Seal) → newest version old ≡ Some a → seal_at version new slot ≡ Some next → a.group < next.group → newest version new ≡ Some next
@@ -213,9 +213,9 @@ module _ (version slot : ℕ) (old new : Image) (within : slot < slot_count) (el
       each : (other : ℕ) → other < slot_count → seal_at version new other ≡ None
       each other inside =
           ⊎_elim
-              (λ (same : other ≡ slot). ap (seal_at version new) same ∙ here)
-              (λ (differs : other ≢ slot). elsewhere version other differs ∙ all_none (seal_at version old) slot_count none other inside)
-              (cases_eq other slot)
+          (λ (same : other ≡ slot). ap (seal_at version new) same ∙ here)
+          (λ (differs : other ≢ slot). elsewhere version other differs ∙ all_none (seal_at version old) slot_count none other inside)
+          (cases_eq other slot)
 
       every : (seals : ℕ → Option Seal) (count : ℕ) → ((other : ℕ) → other < count → seals other ≡ None) → highest seals count ≡ None
       every seals zero none_of = refl

@@ -15,6 +15,8 @@
 mod body;
 mod gate;
 mod ring;
+#[cfg(test)]
+mod ring_tests;
 mod seal;
 #[cfg(test)]
 mod tests;
