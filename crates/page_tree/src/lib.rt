@@ -19,4 +19,6 @@ mod pointer;
 mod tests;
 
 pub use fault::{FindFault, PageFault};
-pub use pointer::{PagePtr, null_is_zeros, pointer_fits, pointers_fit, read_is_spelled, spelled_is_read};
+pub use pointer::{
+    PagePtr, null_is_zeros, pointer_fits, pointers_fit, read_is_spelled, spelled_is_read,
+};
