@@ -1,5 +1,5 @@
 -- Laws of bytes: what stands behind a front, and numbers that are read back or spelled again.
-use Rattle.std.proofs.Common.{◌≡◌, ℕ, ◌+◌, ◌-◌, ◌^◌, ◌<◌, ◌≤◌, List, [], ◌∷◌, ◌++◌, append_assoc, length, get_or, take, drop, replicate, refl, sym, ap, ◌∙◌, inl, inr, arith}
+use Rattle.std.proofs.Common.{◌≡◌, ℕ, ◌+◌, ◌-◌, ◌^◌, ◌<◌, ◌≤◌, List, [], ◌∷◌, ◌++◌, append_assoc, length, take, drop, replicate, sym, ap, ◌∙◌, inl, inr, arith}
 use Rattle.std.specs.Int.{w32, w64, from_le_bytes}
 use Rattle.std.proofs.lemmas.Bool.{cases_lt}
 use Rattle.std.proofs.lemmas.List.{append-nil, take_at, drop_at, take-take, drop-take, take-append-drop, length-take, length-drop, length-replicate, replicate_more, get_or-take, get_or-drop, get_or_past}
@@ -36,6 +36,9 @@ take-add first more bytes =
     ap (λ (xs : List ℕ). xs ++ take more (drop first bytes)) (sym (take-take first (first + more) bytes (omega arith)))
     ∙ ap (λ (xs : List ℕ). take first (take (first + more) bytes) ++ xs) (sym (drop-take first more bytes))
     ∙ take-append-drop first (take (first + more) bytes)
+
+pub AreBytes-drop : (n : ℕ) (bytes : List ℕ) → AreBytes bytes → AreBytes (drop n bytes)
+AreBytes-drop n bytes fits i = rw (get_or-drop n bytes i 0) (fits (n + i))
 
 pub AreBytes-bytes_at : (len offset : ℕ) (bytes : List ℕ) → AreBytes bytes → AreBytes (bytes_at len offset bytes)
 unfolding bytes_at

@@ -1,11 +1,11 @@
 -- Laws of pointers: what is spelled is read, and what is read is spelled.
-use Rattle.std.proofs.Common.{◌≡◌, ℕ, zero, suc, ◌+◌, ◌*◌, ◌^◌, ◌<◌, ◌≤◌, List, [], ◌∷◌, ◌++◌, length, take, drop, refl, sym, ap, ◌∙◌, append_assoc, arith}
+use Rattle.std.proofs.Common.{◌≡◌, ℕ, zero, suc, ◌+◌, ◌*◌, ◌≤◌, List, [], ◌∷◌, ◌++◌, length, take, drop, refl, ap, ◌∙◌, append_assoc, arith}
 use Rattle.std.specs.List.{flat_map, AllByRecursion}
-use Rattle.std.proofs.lemmas.List.{length-append, drop_at}
-use Rattle.page_tree.specs.Bytes.{bytes_at, number_at, number_bytes, zeros, AreBytes}
+use Rattle.std.proofs.lemmas.List.{length-append, length-drop, drop_at}
+use Rattle.page_tree.specs.Bytes.{bytes_at, number_bytes, zeros, AreBytes}
 use Rattle.page_tree.specs.Pointers.{FitsPointer, null_pointer, pointer_bytes, pointer_in, pointers_in}
 use Rattle.page_tree.specs.declared.pointer.PagePtr.{PagePtr}
-use Rattle.page_tree.proofs.Bytes.{length-number_bytes, length-bytes_at, bytes_at-behind, take-add, AreBytes-bytes_at, number_at-is, number_at-lt, number_bytes-at_8}
+use Rattle.page_tree.proofs.Bytes.{length-number_bytes, length-bytes_at, bytes_at-behind, take-add, AreBytes-drop, AreBytes-bytes_at, number_at-is, number_at-lt, number_bytes-at_8}
 
 abbrev pointer_of : ℕ → List ℕ → PagePtr
 pointer_of sector digest = record { sector = sector; digest = digest }
@@ -70,3 +70,15 @@ length-flat_map_pointers (pointer ∷ more) fits =
     let here = length-pointer_bytes pointer fits.0 in
     let behind = length-flat_map_pointers more fits.1 in
     omega (arith, length-append (pointer_bytes pointer) (flat_map pointer_bytes more), here, behind)
+
+-- the spelled pointers that were read are the bytes that they were read from
+pub flat_map-pointers_in : (count : ℕ) (bytes : List ℕ) → AreBytes bytes → 40 * count ≤ length bytes → flat_map pointer_bytes (pointers_in count bytes) ≡ take (40 * count) bytes
+flat_map-pointers_in zero bytes fits within = refl
+flat_map-pointers_in (suc count) bytes fits within =
+    let first = pointer_bytes-pointer_in bytes fits (omega arith) in
+    let others = flat_map-pointers_in count (drop 40 bytes) (AreBytes-drop 40 bytes fits) (omega (arith, length-drop 40 bytes)) in
+    let count-is : 40 + 40 * count ≡ 40 * suc count = omega arith in
+    ap (λ (xs : List ℕ). xs ++ flat_map pointer_bytes (pointers_in count (drop 40 bytes))) first
+    ∙ ap (λ (xs : List ℕ). take 40 bytes ++ xs) others
+    ∙ take-add 40 (40 * count) bytes
+    ∙ ap (λ (n : ℕ). take n bytes) count-is

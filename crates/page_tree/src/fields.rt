@@ -1,7 +1,7 @@
 //! What stands at an offset of a sector's bytes.
 
 ghost use Rattle.std.specs.Prelude.{◌≡◌, ◌+◌, ◌≤◌, length};
-ghost use Rattle.page_tree.specs.Bytes.{bytes_at, number_at};
+ghost use Rattle.page_tree.specs.Bytes.{AreBytes, bytes_at, number_at};
 
 use byteorder::{ByteOrder, LittleEndian};
 
@@ -31,3 +31,8 @@ pub fn array_at<const N: usize>(bytes: &[u8], offset: usize) -> [u8; N]
     array.copy_from_slice(part);
     array
 }
+
+/// Bytes that code has in hand are bytes.
+pub fn bytes_fit(bytes: &[u8])
+    ensures { AreBytes bytes.now }
+{}

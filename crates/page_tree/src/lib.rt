@@ -8,6 +8,9 @@
 //! `front` builds the bytes of a sector piece by piece, and `fields` reads what stands at an offset.
 //! Neither takes memory, and neither can fail: the caller proves that a part fits.
 //!
+//! `PageReader` reads the page of a pointer and compares its digest; `PlainReader` does so by one read
+//! of the disk.
+//!
 //! The ring of seals and every writer and reader of pages stand on this crate.
 #![tactic(auto)]
 

@@ -2,6 +2,7 @@ use crate::fields::{array_at, u32_at, u64_at};
 use crate::front::{full_array, pad_to, put};
 use crate::{FindFault, PageFault, PagePtr};
 use arrayvec::ArrayVec;
+use std::alloc::AllocError;
 
 #[test]
 fn a_pointer_is_its_sector_and_then_its_digest(rt: HostRuntime) {
@@ -13,7 +14,7 @@ fn a_pointer_is_its_sector_and_then_its_digest(rt: HostRuntime) {
         digest,
     };
     let bytes = pointer.to_bytes();
-    assert_eq!(rt; bytes[..9], [8, 7, 6, 5, 4, 3, 2, 1, 1]);
+    assert_eq!(rt; bytes.split_at(9).0, [8, 7, 6, 5, 4, 3, 2, 1, 1].as_slice());
     assert_eq!(rt; bytes[9], 7);
     assert_eq!(rt; bytes[39], 2);
     assert_eq!(rt; PagePtr::from_bytes(&bytes), pointer);
@@ -47,4 +48,5 @@ fn a_fault_stays_the_same_where_memory_is_needed_too(rt: HostRuntime) {
         PageFault::from(FindFault::Damaged(9)),
         PageFault::Damaged(9)
     );
+    assert_eq!(rt; PageFault::from(AllocError), PageFault::Memory);
 }

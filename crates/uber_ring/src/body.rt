@@ -1,6 +1,7 @@
-ghost use Rattle.std.specs.Prelude.{◌≡◌, ◌%◌, ◌≤◌, ℕ, List, length, take, drop};
+ghost use Rattle.std.specs.Prelude.{◌≡◌, ◌%◌, ◌≤◌, ℕ, List, true, length, take, drop};
 ghost use Rattle.std.specs.Str.{bytes_eq};
 ghost use Rattle.sha2.specs.Sha256.{sha256};
+ghost use Rattle.page_tree.specs.Bytes.{AreBytes, bytes_at, zeros};
 ghost use Rattle.page_tree.specs.Pointers.{pointers_in};
 ghost use Rattle.uber_ring.specs.Seals.{FitsSeal, body_bytes, body_seal, is_body, pointers_bytes, seal_in, seal_text, settings_bytes, signed_bytes, state_bytes, sums_bytes};
 ghost use Rattle.uber_ring.specs.declared.seal.Seal.{Seal};
@@ -133,14 +134,8 @@ fn pointers_at(bytes: &[u8]) -> [PagePtr; 6]
     let (third, rest) = (PagePtr::from_bytes(rest), rest.split_at(40).1);
     let (fourth, rest) = (PagePtr::from_bytes(rest), rest.split_at(40).1);
     let (fifth, rest) = (PagePtr::from_bytes(rest), rest.split_at(40).1);
-    [
-        first,
-        second,
-        third,
-        fourth,
-        fifth,
-        PagePtr::from_bytes(rest),
-    ]
+    let sixth = PagePtr::from_bytes(rest);
+    [first, second, third, fourth, fifth, sixth]
 }
 
 /// The fields of a body, read at their offsets.
@@ -191,5 +186,12 @@ pub(crate) fn seal_of(body: &[u8; 4096], version: u32, slot: u32) -> Option<Seal
 /// A seal is read back from its body, by its version and in its group's slot. A body fills a sector.
 pub fn seal_is_read_back()
     ensures len { (seal : Seal) → FitsSeal seal → length (body_bytes seal) ≡ 4096 }
-    ensures back { (seal : Seal) → FitsSeal seal → body_seal seal.version (seal.group % 16) (body_bytes seal) ≡ Some seal }
+    ensures back { (seal : Seal) → FitsSeal seal →
+        body_seal seal.version (seal.group % 16) (body_bytes seal) ≡ Some seal }
+{}
+
+/// A body whose left out bytes are zeros is the one that is written of the seal that it holds.
+pub fn body_is_spelled_again()
+    ensures { (body : List ℕ) → AreBytes body → length body ≡ 4096 → is_body body ≡ true →
+        bytes_at 4 44 body ≡ zeros 4 → bytes_at 3672 392 body ≡ zeros 3672 → body_bytes (seal_in body) ≡ body }
 {}

@@ -21,7 +21,7 @@ mod seal;
 #[cfg(test)]
 mod tests;
 
-pub use body::seal_is_read_back;
+pub use body::{body_is_spelled_again, seal_is_read_back};
 pub use gate::gates_are_told_apart;
 pub use ring::{FEWEST_SECTORS, SLOTS, close_slot, find, gate_open, open_slot, write_body};
 pub use seal::{Seal, seal_fits};

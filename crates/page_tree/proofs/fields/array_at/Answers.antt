@@ -1,4 +1,4 @@
-use Rattle.std.proofs.Common.{rules, ap, ◌∙◌, take, drop, List, ℕ}
+use Rattle.std.proofs.Common.{ap, ◌∙◌, take, List, ℕ}
 use Rattle.page_tree.specs.Bytes.{bytes_at}
 use Rattle.page_tree.proofs.fields.array_at.Goals as goal
 

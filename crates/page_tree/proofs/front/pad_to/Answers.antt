@@ -1,4 +1,4 @@
-use Rattle.std.proofs.Common.{◌≡◌, ◌≤◌, ◌-◌, ◌+◌, ◌∙◌, sym, ap, length, ◌++◌, ◌∷◌, [], ℕ, List, arith}
+use Rattle.std.proofs.Common.{◌≡◌, ◌≤◌, ◌-◌, ◌∙◌, ap, length, ◌++◌, ◌∷◌, [], ℕ, List, arith}
 use Rattle.page_tree.specs.Bytes.{zeros}
 use Rattle.page_tree.proofs.Bytes.{zeros_none, zeros_more}
 use Rattle.page_tree.proofs.front.pad_to.Goals as goal
