@@ -32,6 +32,28 @@ pub enum Change {
     Gone(Key),
 }
 
+/// How a slot's pointer was written.
+#[derive(Clone, Copy, Debug, PartialEq, Eq)]
+pub enum SlotKind {
+    /// Outside the table: the block is this pointer's alone.
+    Plain,
+    /// The table counted the pointer when it was written.
+    Flagged,
+}
+
+/// What a slot of a lane holds in an image.
+#[derive(Clone, Copy, Debug, PartialEq, Eq)]
+pub struct Pointer {
+    /// How the pointer was written.
+    pub kind: SlotKind,
+    /// The key of the block's content.
+    pub key: Key,
+    /// The number of the block's sector.
+    pub place: u64,
+    /// The number of the group that wrote the block.
+    pub birth: u64,
+}
+
 /// The key that a change is of.
 pub fn key_of(change: &Change) -> Key
     ensures { result ≡ key_in change.now }

@@ -7,17 +7,27 @@
 //! until the table's log has been flushed past it. A change is what a log keeps: a new home of a key,
 //! or that the key has gone.
 //!
+//! In an image a change is a record of 72 bytes, all numbers little-endian. `write_change` writes the one
+//! record of a change and `read_change` reads it, or answers `Malformed` exactly where the bytes are none.
+//! The table of the fields stands in `specs/Records.antt`, and the laws that tie both directions are the
+//! clauses of `records_read_back` and `records_by_the_table`. A `Pointer` is what a slot holds in an image.
+//!
 //! Every crate that speaks of blocks stands on these types. Nothing here allocates.
 #![tactic(auto)]
 
 mod entry;
 mod key;
+mod record;
 mod sha256_key;
 #[cfg(test)]
 mod tests;
 mod weak_key;
 
-pub use entry::{Change, Entry, Home, key_of};
+pub use entry::{Change, Entry, Home, Pointer, SlotKind, key_of};
 pub use key::{Key, KeyOf};
+pub use record::{
+    MAX_BLOCK_BYTES, Malformed, RECORD_BYTES, read_change, records_by_the_table, records_read_back,
+    write_change,
+};
 pub use sha256_key::Sha256Key;
 pub use weak_key::WeakKey;

@@ -1,4 +1,7 @@
-use crate::{Change, Entry, Home, Key, KeyOf, Sha256Key, WeakKey, key_of};
+use crate::{
+    Change, Entry, Home, Key, KeyOf, MAX_BLOCK_BYTES, Malformed, RECORD_BYTES, Sha256Key, WeakKey,
+    key_of, read_change, write_change,
+};
 use std::alloc::{AllocError, Global};
 use std::process::Abort;
 use std::test::Fail;
@@ -87,4 +90,100 @@ fn a_change_is_of_its_key(rt: HostRuntime) {
     };
     assert_eq!(rt; key_of(&Change::Entry(Entry { key, home })), key);
     assert_eq!(rt; key_of(&Change::Gone(other)), other);
+}
+
+/// The bytes 1 to 32.
+const DIGEST: [u8; 32] = [
+    1, 2, 3, 4, 5, 6, 7, 8, 9, 10, 11, 12, 13, 14, 15, 16, 17, 18, 19, 20, 21, 22, 23, 24, 25, 26,
+    27, 28, 29, 30, 31, 32,
+];
+
+/// An entry's record: kind 1, length 4,096, digest, place, birth 3, since 1,700,000,000, count 2^64 - 1.
+const ENTRY_RECORD: [u8; RECORD_BYTES] = [
+    1, 0, 0, 0, 0, 16, 0, 0, 1, 2, 3, 4, 5, 6, 7, 8, 9, 10, 11, 12, 13, 14, 15, 16, 17, 18, 19, 20,
+    21, 22, 23, 24, 25, 26, 27, 28, 29, 30, 31, 32, 8, 7, 6, 5, 4, 3, 2, 1, 3, 0, 0, 0, 0, 0, 0, 0,
+    0x00, 0xf1, 0x53, 0x65, 0, 0, 0, 0, 255, 255, 255, 255, 255, 255, 255, 255,
+];
+
+/// The record of a key that has gone: kind 2, length 1, digest, and 32 zeros.
+const GONE_RECORD: [u8; RECORD_BYTES] = [
+    2, 0, 0, 0, 1, 0, 0, 0, 1, 2, 3, 4, 5, 6, 7, 8, 9, 10, 11, 12, 13, 14, 15, 16, 17, 18, 19, 20,
+    21, 22, 23, 24, 25, 26, 27, 28, 29, 30, 31, 32, 0, 0, 0, 0, 0, 0, 0, 0, 0, 0, 0, 0, 0, 0, 0, 0,
+    0, 0, 0, 0, 0, 0, 0, 0, 0, 0, 0, 0, 0, 0, 0, 0,
+];
+
+/// A change's record.
+fn record_of(rt: &impl Abort, change: &Change) -> [u8; RECORD_BYTES] {
+    let len = key_of(change).len;
+    assert!(rt; len >= 1);
+    assert!(rt; len <= MAX_BLOCK_BYTES);
+    let mut bytes = [7; RECORD_BYTES];
+    write_change(change, &mut bytes);
+    bytes
+}
+
+#[test]
+fn records_are_these_72_bytes(rt: HostRuntime) {
+    let entry = Change::Entry(Entry {
+        key: Key {
+            digest: DIGEST,
+            len: 4_096,
+        },
+        home: Home {
+            place: 0x0102_0304_0506_0708,
+            birth: 3,
+            since: 1_700_000_000,
+            count: u64::MAX,
+        },
+    });
+    let gone = Change::Gone(Key {
+        digest: DIGEST,
+        len: 1,
+    });
+    for (change, bytes) in [(entry, ENTRY_RECORD), (gone, GONE_RECORD)] {
+        assert_eq!(rt; record_of(&rt, &change), bytes);
+        assert_eq!(rt; read_change(&bytes), Ok(change));
+    }
+}
+
+#[test]
+fn bytes_that_are_no_record_are_malformed(rt: HostRuntime) {
+    for (case, record, offset, byte) in [
+        ("kind 0", ENTRY_RECORD, 0usize, 0u8),
+        ("kind 3", ENTRY_RECORD, 0, 3),
+        ("kind 257", ENTRY_RECORD, 1, 1),
+        ("length 0", ENTRY_RECORD, 5, 0),
+        ("length 4,097", ENTRY_RECORD, 4, 1),
+        ("gone with length 0", GONE_RECORD, 4, 0),
+        ("gone with a place", GONE_RECORD, 40, 1),
+        ("gone with a birth", GONE_RECORD, 48, 1),
+        ("gone with a since", GONE_RECORD, 56, 1),
+        ("gone with a count", GONE_RECORD, 71, 1),
+    ] {
+        assert!(rt; read_change(&record).is_ok(), "before {case}");
+        assert!(rt; offset < RECORD_BYTES);
+        let mut bytes = record;
+        bytes[offset] = byte;
+        assert_eq!(rt; read_change(&bytes), Err(Malformed), "at {case}");
+    }
+}
+
+#[test]
+fn an_entry_may_have_any_numbers(rt: HostRuntime) {
+    for (len, number) in [(1u32, 0u64), (4_096, 0), (4_096, u64::MAX)] {
+        let entry = Change::Entry(Entry {
+            key: Key {
+                digest: DIGEST,
+                len,
+            },
+            home: Home {
+                place: number,
+                birth: number,
+                since: number,
+                count: number,
+            },
+        });
+        let bytes = record_of(&rt, &entry);
+        assert_eq!(rt; read_change(&bytes), Ok(entry), "at {len} and {number}");
+    }
 }

@@ -1,0 +1,132 @@
+-- The form of a change in 72 bytes. Its numbers are little-endian.
+--
+--   offset  bytes  field
+--        0      4  kind: 1 for an entry, 2 for a key that has gone
+--        4      4  the key's length
+--        8     32  the key's digest
+--       40      8  the home's place
+--       48      8  the home's birth
+--       56      8  the home's since
+--       64      8  the home's count
+--
+-- A key that has gone has 0 in the last four.
+use Rattle.std.specs.Prelude.{◌≡◌, ℕ, ◌+◌, ◌^◌, ◌<◌, ◌≤◌, Bool, not, ◌==◌, ◌&&◌, nat_le, if◌then◌else◌, ◌⊎◌, List, ◌++◌, length, take, drop, slice_index, Result, Ok, Err}
+use Rattle.std.specs.Int.{w32, w64, to_le_bytes, from_le_bytes}
+use Rattle.ddt_entry.specs.declared.key.Key.{Key}
+use Rattle.ddt_entry.specs.declared.entry.Home.{Home}
+use Rattle.ddt_entry.specs.declared.entry.Change.{Change}
+use Rattle.ddt_entry.specs.declared.entry.Change.TheVariants.{Entry, Gone}
+use Rattle.ddt_entry.specs.declared.record.Malformed.{Malformed}
+
+-- what the seven fields say, before anybody judges them
+pub record Fields : Type 0 where
+  pub kind : ℕ
+  pub key : Key
+  pub home : Home
+
+-- ---- The spelling
+
+-- four zeros: what stands in place of the home of a key that has gone
+abbrev pub no_home : Home
+no_home = record { place = 0; birth = 0; since = 0; count = 0 }
+
+-- the fields that say a change
+abbrev pub fields_of : Change → Fields
+fields_of (Entry entry) = record { kind = 1; key = entry.key; home = entry.home }
+fields_of (Gone key) = record { kind = 2; key = key; home = no_home }
+
+-- the fields as bytes, one after another
+abbrev pub spelled : Fields → List ℕ
+spelled fields =
+    to_le_bytes w32 fields.kind
+    ++ to_le_bytes w32 fields.key.len
+    ++ fields.key.digest
+    ++ to_le_bytes w64 fields.home.place
+    ++ to_le_bytes w64 fields.home.birth
+    ++ to_le_bytes w64 fields.home.since
+    ++ to_le_bytes w64 fields.home.count
+
+-- the one spelling of a change: 72 bytes
+abbrev pub record_bytes : Change → List ℕ
+record_bytes change = spelled (fields_of change)
+
+-- ---- What bytes spell
+
+-- the number in the 4 bytes from an offset
+abbrev pub number32_at : ℕ → List ℕ → ℕ
+number32_at offset bytes = from_le_bytes w32 (take 4 (drop offset bytes))
+
+-- the number in the 8 bytes from an offset
+abbrev pub number64_at : ℕ → List ℕ → ℕ
+number64_at offset bytes = from_le_bytes w64 (take 8 (drop offset bytes))
+
+-- the fields in the first 72 bytes
+abbrev pub fields_in : List ℕ → Fields
+fields_in bytes = record {
+  kind = number32_at 0 bytes;
+  key = record { len = number32_at 4 bytes; digest = take 32 (drop 8 bytes) };
+  home = record {
+    place = number64_at 40 bytes;
+    birth = number64_at 48 bytes;
+    since = number64_at 56 bytes;
+    count = number64_at 64 bytes;
+  };
+}
+
+-- whether a key can have this length
+abbrev pub is_key_length : ℕ → Bool
+is_key_length len = nat_le 1 len && nat_le len 4_096
+
+-- whether there are four zeros in place of a home
+abbrev pub is_no_home : Home → Bool
+is_no_home home = home.place == 0 && home.birth == 0 && home.since == 0 && home.count == 0
+
+-- the answer to fields that say no change
+abbrev pub malformed : Result Change Malformed
+malformed = Err (record {})
+
+-- the change that fields say
+abbrev pub change_of : Fields → Result Change Malformed
+change_of fields =
+    if not (is_key_length fields.key.len) then malformed
+    else (if fields.kind == 1 then Ok (Entry (record { key = fields.key; home = fields.home }))
+    else (if fields.kind == 2 && is_no_home fields.home then Ok (Gone fields.key)
+    else malformed))
+
+-- the change that the first 72 bytes spell
+abbrev pub change_in : List ℕ → Result Change Malformed
+change_in bytes = change_of (fields_in bytes)
+
+-- ---- Which bytes and which changes have the form
+
+-- each is a byte
+abbrev pub AreBytes : List ℕ → Type 0
+AreBytes bytes = (i : ℕ) → slice_index bytes i < 256
+
+-- a key can have this length in bytes
+abbrev pub IsKeyLength : ℕ → Type 0
+IsKeyLength len = (1 ≤ len) × (len ≤ 4_096)
+
+-- the bytes begin with a record, by the table
+pub record IsRecord (bytes : List ℕ) : Type 0 where
+  pub kind : (number32_at 0 bytes ≡ 1) ⊎ (number32_at 0 bytes ≡ 2)
+  pub len : IsKeyLength (number32_at 4 bytes)
+  pub gone : number32_at 0 bytes ≡ 2 → (i : ℕ) → i < 32 → slice_index bytes (40 + i) ≡ 0
+
+-- each part of the key fits its field
+pub record KeyFits (key : Key) : Type 0 where
+  pub len : key.len < 2 ^ 32
+  pub digest_len : length key.digest ≡ 32
+  pub digest : AreBytes key.digest
+
+-- each number of the home fits its field
+pub record HomeFits (home : Home) : Type 0 where
+  pub place : home.place < 2 ^ 64
+  pub birth : home.birth < 2 ^ 64
+  pub since : home.since < 2 ^ 64
+  pub count : home.count < 2 ^ 64
+
+-- each part of the change fits its field
+abbrev pub Fits : Change → Type 0
+Fits (Entry entry) = KeyFits entry.key × HomeFits entry.home
+Fits (Gone key) = KeyFits key

@@ -1,0 +1,180 @@
+//! A change as 72 bytes, and back.
+
+ghost use Rattle.std.specs.Prelude.{◌≡◌, ℕ, ◌+◌, ◌≤◌, ◌↔◌, List, ◌++◌, length, drop, Ok, IsOk};
+ghost use Rattle.ddt_entry.specs.declared.entry.Change.{Change};
+ghost use Rattle.ddt_entry.specs.Changes.{key_in};
+ghost use Rattle.ddt_entry.specs.Records.{Fields, spelled, record_bytes, number32_at, number64_at, fields_in, malformed, change_of, change_in, AreBytes, IsKeyLength, IsRecord, KeyFits, HomeFits, Fits};
+
+use crate::entry::{Change, Entry, Home};
+use crate::key::Key;
+
+/// The bytes of a record.
+pub const RECORD_BYTES: usize = 72;
+
+/// The most bytes that a block has.
+pub const MAX_BLOCK_BYTES: u32 = 4_096;
+
+/// The kind of a record that says an entry.
+const ENTRY: u32 = 1;
+
+/// The kind of a record that says that a key has gone.
+const GONE: u32 = 2;
+
+/// What stands in place of the home of a key that has gone.
+const NO_HOME: Home = Home {
+    place: 0,
+    birth: 0,
+    since: 0,
+    count: 0,
+};
+
+/// The bytes are no change.
+#[derive(Clone, Copy, Debug, PartialEq, Eq)]
+pub struct Malformed;
+
+/// The number in the 4 bytes from an offset.
+fn u32_at(bytes: &[u8], offset: usize) -> u32
+    requires { offset + 4 ≤ length bytes.now }
+    ensures { result ≡ number32_at offset bytes.now }
+{
+    let (_, behind) = bytes.split_at(offset);
+    let (field, _) = behind.split_at(4);
+    let mut number = [0; 4];
+    number.copy_from_slice(field);
+    u32::from_le_bytes(number)
+}
+
+/// The number in the 8 bytes from an offset.
+fn u64_at(bytes: &[u8], offset: usize) -> u64
+    requires { offset + 8 ≤ length bytes.now }
+    ensures { result ≡ number64_at offset bytes.now }
+{
+    let (_, behind) = bytes.split_at(offset);
+    let (field, _) = behind.split_at(8);
+    let mut number = [0; 8];
+    number.copy_from_slice(field);
+    u64::from_le_bytes(number)
+}
+
+/// The key that the fields say.
+fn key_at(from: &[u8; RECORD_BYTES]) -> Key
+    ensures { result ≡ (fields_in from.now).key }
+{
+    let (_, behind) = from.split_at(8);
+    let (field, _) = behind.split_at(32);
+    let mut digest = [0; 32];
+    digest.copy_from_slice(field);
+    Key {
+        digest,
+        len: u32_at(from, 4),
+    }
+}
+
+/// The home that the fields say.
+fn home_at(from: &[u8; RECORD_BYTES]) -> Home
+    ensures { result ≡ (fields_in from.now).home }
+{
+    Home {
+        place: u64_at(from, 40),
+        birth: u64_at(from, 48),
+        since: u64_at(from, 56),
+        count: u64_at(from, 64),
+    }
+}
+
+/// The change that fields say. `Malformed` where the key's length isn't from 1 to 4,096, where the kind is neither 1
+/// nor 2, and where a key that has gone has another number than 0 behind it.
+fn change_said(kind: u32, key: Key, home: Home) -> Result<Change, Malformed>
+    ensures { result ≡ change_of (record { kind = kind; key = key; home = home }) }
+{
+    if key.len < 1 || key.len > MAX_BLOCK_BYTES {
+        return Err(Malformed);
+    }
+    match kind {
+        ENTRY => Ok(Change::Entry(Entry { key, home })),
+        GONE if home == NO_HOME => Ok(Change::Gone(key)),
+        _ => Err(Malformed),
+    }
+}
+
+/// The change that a record says. `Malformed` where the key's length isn't from 1 to 4,096, where the kind is neither
+/// 1 nor 2, and where a key that has gone has another number than 0 behind it. Takes no memory.
+pub fn read_change(from: &[u8; RECORD_BYTES]) -> Result<Change, Malformed>
+    ensures { result ≡ change_in from.now }
+{
+    change_said(u32_at(from, 0), key_at(from), home_at(from))
+}
+
+/// Writes the seven fields, one behind the other.
+fn write_fields(kind: u32, key: &Key, home: &Home, out: &mut [u8; RECORD_BYTES])
+    ensures { out.new ≡ spelled (record { kind = kind; key = key.now; home = home.now }) }
+{
+    let (field, rest) = out.split_at_mut(4);
+    field.copy_from_slice(&kind.to_le_bytes());
+    let (field, rest) = rest.split_at_mut(4);
+    field.copy_from_slice(&key.len.to_le_bytes());
+    let (field, rest) = rest.split_at_mut(32);
+    field.copy_from_slice(&key.digest);
+    let (field, rest) = rest.split_at_mut(8);
+    field.copy_from_slice(&home.place.to_le_bytes());
+    let (field, rest) = rest.split_at_mut(8);
+    field.copy_from_slice(&home.birth.to_le_bytes());
+    let (field, rest) = rest.split_at_mut(8);
+    field.copy_from_slice(&home.since.to_le_bytes());
+    rest.copy_from_slice(&home.count.to_le_bytes());
+}
+
+/// Writes the one record of a change whose key's length is from 1 to 4,096. Takes no memory.
+pub fn write_change(change: &Change, out: &mut [u8; RECORD_BYTES])
+    requires { IsKeyLength (key_in change.now).len }
+    ensures { out.new ≡ record_bytes change.now }
+{
+    match change {
+        Change::Entry(entry) => write_fields(ENTRY, &entry.key, &entry.home, out),
+        Change::Gone(key) => write_fields(GONE, key, &NO_HOME, out),
+    }
+}
+
+fn key_fits(key: Key)
+    ensures { KeyFits key }
+{}
+
+fn home_fits(home: Home)
+    ensures { HomeFits home }
+{}
+
+/// Each part of a change fits its field, for whoever has a change at hand and wants a law of its record. It does
+/// nothing.
+pub fn change_fits(change: Change)
+    ensures { Fits change }
+{
+    match change {
+        Change::Entry(entry) => {
+            key_fits(entry.key);
+            home_fits(entry.home);
+        }
+        Change::Gone(key) => key_fits(key),
+    }
+}
+
+/// The form is one in both directions. It does nothing: its clauses are laws of the definitions.
+pub fn records_read_back()
+    // What is written is read back, whatever follows it.
+    ensures written { (change : Change) (rest : List ℕ) → Fits change → IsKeyLength (key_in change).len
+        → change_in (record_bytes change ++ rest) ≡ Ok change }
+    // What is read was written so, and the change fits.
+    ensures read { (bytes : List ℕ) (change : Change) → AreBytes bytes → 72 ≤ length bytes → change_in bytes ≡ Ok change
+        → (bytes ≡ record_bytes change ++ drop 72 bytes) × Fits change × IsKeyLength (key_in change).len }
+    // A record is 72 bytes.
+    ensures len { (change : Change) → Fits change → length (record_bytes change) ≡ 72 }
+    ensures bytes { (change : Change) → Fits change → AreBytes (record_bytes change) }
+    // What follows the 72 bytes doesn't matter.
+    ensures first { (bytes rest : List ℕ) → 72 ≤ length bytes → change_in (bytes ++ rest) ≡ change_in bytes }
+{}
+
+/// Which bytes are records: those that have the form by the table, and no others. It does nothing: its clauses are
+/// laws of the definitions.
+pub fn records_by_the_table()
+    ensures right { (bytes : List ℕ) → IsOk (change_in bytes) ↔ IsRecord bytes }
+    ensures wrong { (bytes : List ℕ) → (change_in bytes ≡ malformed) ↔ (¬ IsRecord bytes) }
+{}
