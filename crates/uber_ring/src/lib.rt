@@ -14,6 +14,7 @@
 
 mod body;
 mod gate;
+mod laws;
 mod ring;
 #[cfg(test)]
 mod ring_tests;
@@ -23,5 +24,6 @@ mod tests;
 
 pub use body::{body_is_spelled_again, seal_is_read_back};
 pub use gate::gates_are_told_apart;
+pub use laws::{newest_is_the_highest, one_slot_changes};
 pub use ring::{FEWEST_SECTORS, SLOTS, close_slot, find, gate_open, open_slot, write_body};
 pub use seal::{Seal, seal_fits};
