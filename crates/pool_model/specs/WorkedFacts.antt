@@ -1,5 +1,5 @@
 -- Worked examples beside the runs: files that are refused, digests, room, the premise on digests, and pools that hold together.
-use Rattle.std.specs.Prelude.{◌≡◌, ℕ, List, [], ◌∷◌, ◌++◌, replicate, codes, Ok, Err, Some, None, ◌==◌, if◌then◌else◌}
+use Rattle.std.specs.Prelude.{◌≡◌, ℕ, ◌^◌, List, [], ◌∷◌, ◌++◌, length, replicate, codes, Ok, Err, Some, None, ◌==◌, if◌then◌else◌}
 use Rattle.std.specs.List.{AllByRecursion}
 use Rattle.hex.specs.Hex.{encode_lower}
 use Rattle.sha2.specs.Sha256.{sha256}
@@ -16,7 +16,7 @@ use Rattle.pool_model.specs.Space.{need, writes_in, changes_in}
 use Rattle.pool_model.specs.Group.{Standing, lane_by_lane}
 use Rattle.pool_model.specs.Run.{Ended, ended_items, first_standing}
 use Rattle.pool_model.specs.Clash.{NoClash}
-use Rattle.pool_model.specs.File.{file_of, lawful_block, lawful_parts}
+use Rattle.pool_model.specs.File.{file_limit, file_of, lawful_block, lawful_parts}
 use Rattle.pool_model.specs.Worked.{a, b, c, task, new, hit, lane_note, group_note, settings_note}
 use Rattle.pool_model.specs.WorkedTurns.{spoilt}
 
@@ -56,8 +56,10 @@ abbrev pub EdgeFile : Type 0
 EdgeFile = file_of (codes "group 1099511627775\n0 write 65535 00ff\n0 write 0 a9\nend\nstat\n")
     ≡ Ok (lanes 1099511627775 (task 0 65535 (write (0 ∷ 255 ∷ [])) ∷ task 0 0 (write (169 ∷ [])) ∷ []) ∷ stat ∷ [])
 
--- the longest block and one longer, the most writes and one more
+-- the longest file, how many lanes there are, the longest block and one longer, the most writes and one more
 pub record Limits : Type 0 where
+  pub longest_file : file_limit ≡ 2 ^ 20
+  pub sixteen : length empty_pool.modes ≡ 16
   pub block : lawful_block (Ok (replicate 4096 97)) ≡ Some (replicate 4096 97)
   pub longer : lawful_block (Ok (replicate 4097 97)) ≡ None
   pub writes : lawful_parts (Some 0) (Some (replicate 1000 (task 0 1 (write a)))) ≡ Some (lanes 0 (replicate 1000 (task 0 1 (write a))) ∷ stat ∷ [])
