@@ -110,10 +110,12 @@ pub fn write_change(change: &Change, out: &mut [u8; RECORD_BYTES])
     }
 }
 
+/// A key by value fits, since its types say so; behind a reference the checker doesn't see it.
 fn key_fits(key: Key)
     ensures { KeyFits key }
 {}
 
+/// The same of a home.
 fn home_fits(home: Home)
     ensures { HomeFits home }
 {}

@@ -1,5 +1,5 @@
 -- How what a crash leaves at each moment of a run goes on from call to call.
-use Rattle.std.proofs.Common.{ℕ, inl, inr, ⊎_elim, arith}
+use Rattle.std.proofs.Common.{ℕ, ◌≤◌, inl, inr, ⊎_elim, arith}
 use Rattle.disk_model.specs.Images.{Image}
 use Rattle.disk_model.specs.Crashes.{Elapses, Follows, LeavesOnly}
 
@@ -24,6 +24,10 @@ module _ {D : Type 0} (clock : D → ℕ) (left_since : D → ℕ → Image → 
     each = λ c left. ⊎_elim (first.each c) (λ now. now) (second.before (clock old) c first.later left);
     before = λ since c earlier left. ⊎_elim (first.before since c earlier) (λ now. inr now) (second.before since c (omega (arith, earlier, first.later)) left);
   }
+
+  -- what a crash may leave at the end of a run
+  pub at_end : (old new : D) (P may_leave : Image → Type 0) → LeavesOnly clock left_since old new P → ((since : ℕ) (c : Image) → since ≤ clock new → may_leave c → left_since new since c) → (c : Image) → may_leave c → P c
+  at_end old new P may_leave run counted c left = run.each c (counted (clock old) c run.later left)
 
   -- a run of which less is said
   pub weakened : (old new : D) (P Q : Image → Type 0) → LeavesOnly clock left_since old new P → ((c : Image) → P c → Q c) → LeavesOnly clock left_since old new Q

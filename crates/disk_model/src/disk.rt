@@ -114,5 +114,4 @@ pub fn crash_laws<D: Disk>(disk: &D)
     ensures now { (c : Image) → D.left_since disk.now (D.clock disk.now) c → D.may_leave disk.now c }
     ensures counted { (since : ℕ) (c : Image) → since ≤ D.clock disk.now → D.may_leave disk.now c → D.left_since disk.now since c }
     ensures images { (c : Image) → D.may_leave disk.now c → IsImage (D.sectors_of disk.now) c }
-{
-}
+{}

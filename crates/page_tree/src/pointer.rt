@@ -51,13 +51,16 @@ impl PagePtr {
 /// A pointer that fits is read back, whatever follows it.
 pub fn spelled_is_read()
     ensures len { (pointer : PagePtr) → FitsPointer pointer → length (pointer_bytes pointer) ≡ 40 }
-    ensures back { (pointer : PagePtr) (rest : List ℕ) → FitsPointer pointer → pointer_in (pointer_bytes pointer ++ rest) ≡ pointer }
+    ensures back { (pointer : PagePtr) (rest : List ℕ) → FitsPointer pointer →
+        pointer_in (pointer_bytes pointer ++ rest) ≡ pointer }
 {}
 
 /// Bytes are spelled by what is read of them.
 pub fn read_is_spelled()
-    ensures fits { (bytes : List ℕ) → AreBytes bytes → 40 ≤ length bytes → FitsPointer (pointer_in bytes) }
-    ensures again { (bytes : List ℕ) → AreBytes bytes → 40 ≤ length bytes → pointer_bytes (pointer_in bytes) ≡ take 40 bytes }
+    ensures fits { (bytes : List ℕ) → AreBytes bytes → 40 ≤ length bytes →
+        FitsPointer (pointer_in bytes) }
+    ensures again { (bytes : List ℕ) → AreBytes bytes → 40 ≤ length bytes →
+        pointer_bytes (pointer_in bytes) ≡ take 40 bytes }
 {}
 
 /// The null pointer is 40 zeros.
@@ -66,7 +69,7 @@ pub fn null_is_zeros()
     ensures bytes { pointer_bytes null_pointer ≡ zeros 40 }
 {}
 
-/// A pointer that code has in hand fits.
+/// A pointer that code has in hand fits, by the types of its fields.
 pub fn pointer_fits(pointer: PagePtr)
     ensures { FitsPointer pointer }
 {}

@@ -4,7 +4,7 @@ use Rattle.std.specs.Option.{option_map_or}
 use Rattle.std.proofs.Common.{refl, ap, inl, inr, rules, arith}
 use Rattle.pool_model.proofs.OnLiterals.{pool_on_literals}
 use Rattle.ddt_entry.specs.declared.entry.Home.{Home}
-use Rattle.pool_model.specs.WorkedFacts.{RefusedFiles, EdgeFile, Digests, Needs, Premise, HoldTogether, Counted, one_key, entry}
+use Rattle.pool_model.specs.WorkedFacts.{RefusedFiles, EdgeFile, Limits, Digests, Needs, Premise, HoldTogether, Counted, one_key, entry}
 
 pub refused_files : RefusedFiles
 unfolding pool_on_literals
@@ -13,6 +13,9 @@ refused_files = search rules
 pub edge_file : EdgeFile
 unfolding pool_on_literals
 edge_file = refl
+
+pub limits : Limits
+limits = record { longest_file = refl; sixteen = refl; block = refl; longer = refl; writes = refl; one_more = refl }
 
 pub digests : Digests
 unfolding pool_on_literals
@@ -26,9 +29,11 @@ unfolding pool_on_literals
 premise = record {
   clash = λ h. (let second : 97 ≡ 98 = ap (λ (block : List ℕ). slice_index block 1) (h.0.writes.1.0 refl) in omega arith);
   verified = search rules;
+  switched_off = search rules;
   one_block = search rules;
   spoilt_block = λ h. (let first : 97 ≡ 98 = ap (λ (block : List ℕ). slice_index block 0) (h.0.waiting.0 refl) in omega arith);
   spoilt_pointer = λ h. (let first : 97 ≡ 98 = ap (λ (block : List ℕ). slice_index block 0) (h.0.pointers.0 refl) in omega arith);
+  waiting_block = search rules;
 }
 
 pub hold_together : HoldTogether

@@ -2,7 +2,7 @@
 use Rattle.std.specs.Prelude.{◌≡◌, ◌≤◌, [], ◌∷◌}
 use Rattle.pool_model.specs.Worked.{new, hit}
 use Rattle.std.proofs.Common.{refl, inl, inr, rules, arith}
-use Rattle.pool_model.specs.WorkedLeft.{LaterHit, TakenUp, NewMoment, NoChange, QuotaFirst, OffLane, ReadsNothing, WaitsAgain, BytesKept, OldestFirst, PlainStays, QuotaByKeys, CutBlock, Ordered, FreePlaces, OtherNotes}
+use Rattle.pool_model.specs.WorkedLeft.{LaterHit, TakenUp, NewMoment, NoChange, QuotaFirst, OffLane, OtherLaneOff, ReadsNothing, WaitsAgain, BytesKept, OldestFirst, PlainStays, QuotaByKeys, CutBlock, Ordered, FreePlaces, OtherNotes}
 
 pub later_hit : LaterHit
 later_hit = search rules
@@ -21,6 +21,9 @@ quota_first = search rules
 
 pub off_lane : OffLane
 off_lane = search rules
+
+pub other_lane_off : OtherLaneOff
+other_lane_off = search rules
 
 pub waits_again : WaitsAgain
 waits_again = search rules

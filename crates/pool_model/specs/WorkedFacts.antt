@@ -1,26 +1,27 @@
 -- Worked examples beside the runs: files that are refused, digests, room, the premise on digests, and pools that hold together.
-use Rattle.std.specs.Prelude.{◌≡◌, ℕ, List, [], ◌∷◌, ◌++◌, replicate, codes, Ok, Err}
+use Rattle.std.specs.Prelude.{◌≡◌, ℕ, ◌^◌, List, [], ◌∷◌, ◌++◌, length, replicate, codes, Ok, Err, Some, None, ◌==◌, if◌then◌else◌}
 use Rattle.std.specs.List.{AllByRecursion}
 use Rattle.hex.specs.Hex.{encode_lower}
 use Rattle.sha2.specs.Sha256.{sha256}
 use Rattle.ddt_entry.specs.Keys.{sha256_key, weak_key}
 use Rattle.ddt_entry.specs.declared.key.Key.{Key}
 use Rattle.ddt_entry.specs.declared.entry.Entry.{Entry}
-use Rattle.pool_model.specs.declared.commands.Mode.TheVariants.{Verify}
+use Rattle.pool_model.specs.declared.answers.WriteAnswer.TheVariants as written
+use Rattle.pool_model.specs.declared.commands.Mode.TheVariants.{Off, Verify}
 use Rattle.pool_model.specs.declared.notes.BadKind.TheVariants.{Form}
 use Rattle.pool_model.specs.Pool.{Pool, Pointer, Mark, plain, tracked, loose, empty_pool, IsWellFormed}
 use Rattle.pool_model.specs.Table.{empty_table, Matches}
-use Rattle.pool_model.specs.Plain.{Part, Told, write, read, free, lanes, set_mode, stat}
+use Rattle.pool_model.specs.Plain.{Part, Told, write, read, free, lanes, set_mode, stat, to_write}
 use Rattle.pool_model.specs.Space.{need, writes_in, changes_in}
 use Rattle.pool_model.specs.Group.{Standing, lane_by_lane}
 use Rattle.pool_model.specs.Run.{Ended, ended_items, first_standing}
 use Rattle.pool_model.specs.Clash.{NoClash}
-use Rattle.pool_model.specs.File.{file_of}
+use Rattle.pool_model.specs.File.{file_limit, file_of, lawful_block, lawful_parts}
 use Rattle.pool_model.specs.Worked.{a, b, c, task, new, hit, lane_note, group_note, settings_note}
 use Rattle.pool_model.specs.WorkedTurns.{spoilt}
 
 -- files that say something else than a group of writes and a `stat`: empty, without the last line feed, with CR, in capitals,
--- with another letter, with another digit, with an odd digit, out of a range, with a number that begins with 0, without a write, without `end`, with more behind, of another lane
+-- with another letter, with another digit, with an odd digit, out of a range, with a number that begins with 0, with another first line, without a write, without `end`, with more behind, of another lane
 abbrev pub refused_files : List (List ℕ)
 refused_files =
     [] ∷ codes "group 1000\n0 write 1 61\nend\nstat"
@@ -35,6 +36,9 @@ refused_files =
     ∷ codes "group 1099511627776\n0 write 1 61\nend\nstat\n"
     ∷ codes "group 1000\n0 write 01 61\nend\nstat\n"
     ∷ codes "group 01000\n0 write 1 61\nend\nstat\n"
+    ∷ codes "groups 1000\n0 write 1 61\nend\nstat\n"
+    ∷ codes "group\n0 write 1 61\nend\nstat\n"
+    ∷ codes "group 1000 1000\n0 write 1 61\nend\nstat\n"
     ∷ codes "group 1000\nend\nstat\n"
     ∷ codes "group 1000\n0 write 1 61\nstat\n"
     ∷ codes "group 1000\n0 write 1 61\nend\nstat\n\n"
@@ -51,6 +55,15 @@ RefusedFiles = AllByRecursion (λ file. file_of file ≡ Err (record { line = 0;
 abbrev pub EdgeFile : Type 0
 EdgeFile = file_of (codes "group 1099511627775\n0 write 65535 00ff\n0 write 0 a9\nend\nstat\n")
     ≡ Ok (lanes 1099511627775 (task 0 65535 (write (0 ∷ 255 ∷ [])) ∷ task 0 0 (write (169 ∷ [])) ∷ []) ∷ stat ∷ [])
+
+-- the longest file, how many lanes there are, the longest block and one longer, the most writes and one more
+pub record Limits : Type 0 where
+  pub longest_file : file_limit ≡ 2 ^ 20
+  pub sixteen : length empty_pool.modes ≡ 16
+  pub block : lawful_block (Ok (replicate 4096 97)) ≡ Some (replicate 4096 97)
+  pub longer : lawful_block (Ok (replicate 4097 97)) ≡ None
+  pub writes : lawful_parts (Some 0) (Some (replicate 1000 (task 0 1 (write a)))) ≡ Some (lanes 0 (replicate 1000 (task 0 1 (write a))) ∷ stat ∷ [])
+  pub one_more : lawful_parts (Some 0) (Some (replicate 1001 (task 0 1 (write a)))) ≡ None
 
 -- published digests
 pub record Digests : Type 0 where
@@ -83,14 +96,23 @@ abbrev pub TrustsOneWrite : Standing → Type 0
 TrustsOneWrite s = NoClash sha256_key s (lanes 1000 (task 1 1 (write a) ∷ []) ∷ [])
     (ended_items lane_by_lane sha256_key (lanes 1000 (task 1 1 (write a) ∷ []) ∷ []) (group_note 2 (lane_note 1 (new ∷ []) (32 ∷ []) ∷ []) ∷ []) s)
 
--- the premise fails where a lane that trusts keys writes two blocks of one key, or finds other bytes under its key, that wait or that a pointer has; a lane that verifies asks for nothing
+-- a home of the key that waits at place 40, where its block lies, while another block lies at the place of its birth's number
+abbrev pub whole_block : Standing
+whole_block = record spoilt { pool = empty_pool; blocks = λ place. if place == 40 then a else b }
+
+abbrev pub off_notes : (number : ℕ) → List Told
+off_notes number = group_note number (lane_note 0 (to_write written.Off ∷ to_write written.Off ∷ []) (32 ∷ 33 ∷ []) ∷ []) ∷ []
+
+-- the premise fails where a lane that trusts keys writes two blocks of one key, or finds other bytes under its key, that wait or that a pointer has; a lane that verifies, or that is off, asks for nothing
 pub record Premise : Type 0 where
   pub clash : NoClash weak_key first_standing two_blocks (ended_weakly first_standing two_blocks (two_blocks_notes 2)) → ⊥
   pub verified : NoClash weak_key first_standing (set_mode 0 Verify ∷ two_blocks) (ended_weakly first_standing (set_mode 0 Verify ∷ two_blocks) (settings_note 2 ∷ two_blocks_notes 3))
+  pub switched_off : NoClash weak_key first_standing (set_mode 0 Off ∷ two_blocks) (ended_weakly first_standing (set_mode 0 Off ∷ two_blocks) (settings_note 2 ∷ off_notes 3))
   pub one_block : NoClash sha256_key first_standing (lanes 1000 (task 0 1 (write a) ∷ task 0 2 (write a) ∷ []) ∷ [])
       (ended_items lane_by_lane sha256_key (lanes 1000 (task 0 1 (write a) ∷ task 0 2 (write a) ∷ []) ∷ []) (two_blocks_notes 2) first_standing)
   pub spoilt_block : TrustsOneWrite (record spoilt { pool = empty_pool }) → ⊥
   pub spoilt_pointer : TrustsOneWrite (record spoilt { table = empty_table }) → ⊥
+  pub waiting_block : TrustsOneWrite whole_block
 
 -- a key and pointers of it
 abbrev pub one_key : Key

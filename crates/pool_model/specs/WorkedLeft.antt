@@ -90,7 +90,15 @@ OffLane = Leaves own_key first_standing
     (pointer 1 a 32 3 plain ∷ [])
     (record empty_table { age = 2 })
 
--- it reads nothing that could fail, and neither does a write to a slot that is taken or a free outside the table
+-- another lane than the one that is off has its change logged, whatever its slot
+abbrev pub OtherLaneOff : Type 0
+OtherLaneOff = Leaves own_key first_standing
+    (set_mode 1 Off ∷ commands 1000 ((1, write a) ∷ []) ∷ [])
+    (settings_note 2 ∷ told 3 (new ∷ []) (32 ∷ []) ∷ [])
+    (pointer 1 a 32 3 (tracked 1000) ∷ [])
+    (logged 2 (entry (own_key a) 32 3 1000 1 ∷ []))
+
+-- a lane that is off reads nothing that could fail, and neither does a write to a slot that is taken or a free outside the table
 abbrev pub ReadsNothing : Type 0
 ReadsNothing = (noted_course lane_by_lane own_key
     (record first_standing { pool = record empty_pool { modes = Off ∷ replicate 15 On } })

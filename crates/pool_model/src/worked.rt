@@ -1,8 +1,8 @@
 ghost use Rattle.pool_model.specs.WorkedRuns.{OneWrite, SharedWrite, TakenSlot, FullQuota, RoomAgain, PrunedByAge, LoosePointer, PrunedByShare, VerifiedBytes, EmptySlot, MixedLanes};
 ghost use Rattle.pool_model.specs.WorkedTurns.{WaitingHome, TwoLanes, FailedReads, SpoiltBlock, NoRoom};
 ghost use Rattle.pool_model.specs.WorkedTables.{OneChange, SwapByAge, Flushed, GoneKey, FlushedInParts, LimitBefore, SwapWaits, SwapByKeys, LongFlush};
-ghost use Rattle.pool_model.specs.WorkedFacts.{RefusedFiles, EdgeFile, Digests, Needs, Premise, HoldTogether, Counted};
-ghost use Rattle.pool_model.specs.WorkedLeft.{LaterHit, TakenUp, NewMoment, NoChange, QuotaFirst, OffLane, ReadsNothing, WaitsAgain, BytesKept, OldestFirst, PlainStays, QuotaByKeys, CutBlock, Ordered, FreePlaces, OtherNotes};
+ghost use Rattle.pool_model.specs.WorkedFacts.{RefusedFiles, EdgeFile, Limits, Digests, Needs, Premise, HoldTogether, Counted};
+ghost use Rattle.pool_model.specs.WorkedLeft.{LaterHit, TakenUp, NewMoment, NoChange, QuotaFirst, OffLane, OtherLaneOff, ReadsNothing, WaitsAgain, BytesKept, OldestFirst, PlainStays, QuotaByKeys, CutBlock, Ordered, FreePlaces, OtherNotes};
 
 /// Worked runs: for each the items, the notes that a session makes of them, and the bytes of the report.
 /// It does nothing: its clauses are the examples, so that no definition that breaks one passes a check.
@@ -34,6 +34,7 @@ pub fn worked_groups()
     ensures no_change { NoChange }
     ensures quota_first { QuotaFirst }
     ensures off_lane { OffLane }
+    ensures other_lane_off { OtherLaneOff }
     ensures reads_nothing { ReadsNothing }
     ensures waits_again { WaitsAgain }
     ensures bytes_kept { BytesKept }
@@ -64,6 +65,7 @@ pub fn worked_tables()
 pub fn worked_facts()
     ensures refused_files { RefusedFiles }
     ensures edge_file { EdgeFile }
+    ensures limits { Limits }
     ensures digests { Digests }
     ensures needs { Needs }
     ensures premise { Premise }

@@ -4,3 +4,4 @@ pub mod SealLaws
 pub mod RingLaws
 pub mod Told
 pub mod Newest
+pub mod Written

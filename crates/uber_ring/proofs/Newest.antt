@@ -221,3 +221,25 @@ module _ (version slot : ℕ) (old new : Image) (within : slot < slot_count) (el
       every seals zero none_of = refl
       every seals (suc count) none_of =
           ap (λ (o : Option Seal). higher o (seals count)) (every seals count (λ other inside. none_of other (omega (arith, inside)))) ∙ none_of count (omega arith)
+
+-- what counts is a valid seal
+pub newest_valid : (version : ℕ) (image : Image) → IfSome (newest version image) (λ best. seal_at version image (slot_of best.group) ≡ Some best)
+unfolding newest
+newest_valid version image = of_highest (highest (seal_at version image) slot_count) refl
+  where
+    of_highest : (o : Option Seal) → highest (seal_at version image) slot_count ≡ o → IfSome o (λ best. seal_at version image (slot_of best.group) ≡ Some best)
+    of_highest None same = tt
+    of_highest (Some best) same =
+        let found = stands_in (seal_at version image) slot_count best same in
+        ap (seal_at version image) (in_its_slot version found.0 image best found.2) ∙ found.2
+
+-- and no valid seal is of a higher group
+pub newest_highest : (version slot : ℕ) (image : Image) → slot < slot_count → IfSome (seal_at version image slot) (λ seal. IsSomeAnd (newest version image) (λ best. seal.group ≤ best.group))
+unfolding newest
+newest_highest version slot image within = of_both (highest (seal_at version image) slot_count) (seal_at version image slot) refl refl
+  where
+    of_both : (o s : Option Seal) → highest (seal_at version image) slot_count ≡ o → seal_at version image slot ≡ s → IfSome s (λ seal. IsSomeAnd o (λ best. seal.group ≤ best.group))
+    of_both o None same here = tt
+    of_both None (Some seal) same here = absurd (cc (all_none (seal_at version image) slot_count same slot within, here))
+    of_both (Some best) (Some seal) same here =
+        subst (λ (x : Option Seal). IfSome x (λ s. s.group ≤ best.group)) here (none_higher (seal_at version image) slot_count best same slot within)

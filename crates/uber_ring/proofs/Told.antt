@@ -14,7 +14,7 @@ module _ (version slot : ℕ) where
   told_closed (Some image) reads gate closed = sym (seal_at-closed version slot image (sym gate ∙ closed))
 
   -- what stands behind a gate, where the disk is large enough
-  behind-large : (image : Image) → fewest_sectors ≤ length image → behind version image slot ≡ body_seal version slot (sector_at image (body_sector slot))
+  pub behind-large : (image : Image) → fewest_sectors ≤ length image → behind version image slot ≡ body_seal version slot (sector_at image (body_sector slot))
   unfolding behind
   behind-large image large =
       ap (λ enough. if enough then body_seal version slot (sector_at image (body_sector slot)) else None) (le-leb large)

@@ -33,13 +33,39 @@ fn seal<D: Disk>(rt: &impl Abort, disk: &mut D, group: u64) -> Result<(), Failed
     assert!(rt; disk.sectors() >= 32);
     write_body(disk, &seal_of_group(group))?;
     disk.barrier()?;
-    open_slot(disk, (group % 16) as u32)
+    open(rt, disk, (group % 16) as u32)
 }
 
 /// Writes a sector that the disk has.
 fn put<D: Disk>(rt: &impl Abort, disk: &mut D, at: u64, bytes: &[u8; 4096]) -> Result<(), Failed> {
     assert!(rt; at < disk.sectors());
     disk.write(at, bytes)
+}
+
+/// Opens a slot of a disk that has the ring.
+fn open<D: Disk>(rt: &impl Abort, disk: &mut D, slot: u32) -> Result<(), Failed> {
+    assert!(rt; disk.sectors() >= 32);
+    assert!(rt; slot < 16);
+    open_slot(disk, slot)
+}
+
+/// Closes a slot of a disk that has the ring.
+fn close<D: Disk>(rt: &impl Abort, disk: &mut D, slot: u32, was_open: bool) -> Result<(), Failed> {
+    assert!(rt; disk.sectors() >= 32);
+    assert!(rt; slot < 16);
+    close_slot(disk, slot, was_open)
+}
+
+/// Whether a slot's gate reads open.
+fn reads_open<D: Disk>(
+    rt: &impl Abort,
+    disk: &D,
+    meter: &mut D::Meter,
+    slot: u32,
+) -> Result<bool, Failed> {
+    assert!(rt; disk.sectors() >= 32);
+    assert!(rt; slot < 16);
+    gate_open(disk, meter, slot)
 }
 
 /// The group of the seal that counts, and 0 where there is none.
@@ -82,14 +108,14 @@ fn what_is_no_valid_seal_does_not_count(rt: HostRuntime) -> Result<(), Fail> {
 
     // A body of group 5 in the slot of group 4, and the same group in its own slot, but behind a closed gate.
     put(&rt, &mut disk, 9, &body_of(&seal_of_group(5)))?;
-    open_slot(&mut disk, 4)?;
+    open(&rt, &mut disk, 4)?;
     put(&rt, &mut disk, 11, &body_of(&seal_of_group(5)))?;
     assert_eq!(rt;
         newest_group(&mut disk)?,
         1,
         "another slot's group, and a closed gate"
     );
-    open_slot(&mut disk, 5)?;
+    open(&rt, &mut disk, 5)?;
     assert_eq!(rt;
         newest_group(&mut disk)?,
         5,
@@ -99,13 +125,13 @@ fn what_is_no_valid_seal_does_not_count(rt: HostRuntime) -> Result<(), Fail> {
     let mut wrong = body_of(&seal_of_group(6));
     wrong[400] = 1;
     put(&rt, &mut disk, 13, &wrong)?;
-    open_slot(&mut disk, 6)?;
+    open(&rt, &mut disk, 6)?;
     assert_eq!(rt; newest_group(&mut disk)?, 5, "a wrong digest");
 
     let mut later = seal_of_group(7);
     later.version = 1;
     put(&rt, &mut disk, 15, &body_of(&later))?;
-    open_slot(&mut disk, 7)?;
+    open(&rt, &mut disk, 7)?;
     assert_eq!(rt;
         newest_group(&mut disk)?,
         5,
@@ -127,15 +153,15 @@ fn a_slot_is_closed_only_where_it_was_open(rt: HostRuntime) -> Result<(), Fail> 
     seal(&rt, &mut disk, 1)?;
     seal(&rt, &mut disk, 2)?;
     let mut meter = disk.meter()?;
-    assert!(rt; gate_open(&disk, &mut meter, 2)?);
+    assert!(rt; reads_open(&rt, &disk, &mut meter, 2)?);
     let made = disk.calls_made();
-    close_slot(&mut disk, 2, true)?;
-    assert_eq!(rt; disk.calls_made() - made, 2);
-    assert!(rt; !gate_open(&disk, &mut meter, 2)?);
+    close(&rt, &mut disk, 2, true)?;
+    assert_eq!(rt; disk.calls_made().saturating_sub(made), 2);
+    assert!(rt; !reads_open(&rt, &disk, &mut meter, 2)?);
     assert_eq!(rt; newest_group(&mut disk)?, 1);
     let made = disk.calls_made();
-    close_slot(&mut disk, 2, false)?;
-    assert_eq!(rt; disk.calls_made() - made, 1);
+    close(&rt, &mut disk, 2, false)?;
+    assert_eq!(rt; disk.calls_made().saturating_sub(made), 1);
     Ok(())
 }
 

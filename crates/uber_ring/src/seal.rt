@@ -9,11 +9,11 @@ pub struct Seal {
     pub version: u32,
     /// The number of the key function: 1 for SHA-256, 255 for the weak key.
     pub tag: u32,
-    /// The number of the group that the seal was written after.
+    /// The number of the group that the seal is of.
     pub group: u64,
     /// The sectors of the pool.
     pub sectors: u64,
-    /// The quota in bytes; 0 where there is none.
+    /// The quota of the table in bytes; 0 where there is none.
     pub quota: u64,
     /// 1 where there is a quota, else 0.
     pub quota_flag: u32,
@@ -31,8 +31,8 @@ pub struct Seal {
     pub checkpoint_len: u32,
     /// The digest of the checkpoint's key.
     pub checkpoint_digest: [u8; 32],
-    /// The first pages of the slots, the unique and the duplicate table, the active and the flushing
-    /// log, and the space map.
+    /// The pointers to the slots, the unique and the duplicate table, the active and the flushing log,
+    /// and the space, in this order.
     pub pointers: [PagePtr; 6],
     /// The number of homes with a count above 0.
     pub homes: u64,
@@ -42,7 +42,7 @@ pub struct Seal {
     pub pages: u64,
 }
 
-/// A seal that code has in hand fits its body.
+/// A seal that code has in hand fits its body, by the types of its fields.
 pub fn seal_fits(seal: Seal)
     ensures { FitsSeal seal }
 {

@@ -1,4 +1,4 @@
-use Rattle.pool_model.proofs.Left.{later_hit, taken_up, new_moment, no_change, quota_first, off_lane, reads_nothing, waits_again, bytes_kept, oldest_first, plain_stays, quota_by_keys, cut_block, ordered, free_places, other_notes}
+use Rattle.pool_model.proofs.Left.{later_hit, taken_up, new_moment, no_change, quota_first, off_lane, other_lane_off, reads_nothing, waits_again, bytes_kept, oldest_first, plain_stays, quota_by_keys, cut_block, ordered, free_places, other_notes}
 use Rattle.pool_model.proofs.worked.worked_groups.Goals as goal
 
 pub returns : goal.returns
@@ -9,6 +9,7 @@ returns c = record {
   no_change = no_change;
   quota_first = quota_first;
   off_lane = off_lane;
+  other_lane_off = other_lane_off;
   reads_nothing = reads_nothing;
   waits_again = waits_again;
   bytes_kept = bytes_kept;
