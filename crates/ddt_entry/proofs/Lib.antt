@@ -1,2 +1,4 @@
+pub mod Bytes
 pub mod KeyLaws
+pub mod Parts
 pub mod RecordLaws

@@ -1,107 +1,47 @@
 -- The form of a change in 72 bytes: each field lies where the table says, what is written is read back, what is
 -- read was written so, and the records are those of the table.
-use Rattle.std.proofs.Common.{◌≡◌, ℕ, zero, suc, ◌+◌, ◌-◌, ◌^◌, ◌/◌, ◌<◌, ◌≤◌, Bool, true, false, cond, not, ◌&&◌, eqb, leb, ◌⊎◌, ◌↔◌, List, [], ◌∷◌, ◌++◌, length, get_or, take, drop, Result, Ok, Err, IsOk, refl, sym, ap, subst, ◌∙◌, inl, inr, append_assoc, arith, mod-lt, is_ok, eq-eqb}
-use Rattle.std.specs.Int.{w32, w64, byte_at, bytes_low_first, to_le_bytes, from_le_bytes}
+use Rattle.std.proofs.Common.{◌≡◌, ℕ, ◌+◌, ◌-◌, ◌^◌, ◌<◌, ◌≤◌, Bool, true, false, cond, not, ◌&&◌, eqb, leb, ◌⊎◌, ◌↔◌, List, [], ◌∷◌, ◌++◌, length, get_or, take, drop, map, Result, Ok, Err, IsOk, refl, sym, ap, subst, ◌∙◌, inl, inr, append_assoc, arith, is_ok, eq-eqb}
+use Rattle.std.specs.List.{concat}
 use Rattle.std.proofs.lemmas.Bool.{cases_lt, and_parts, and_from, eqb-true, leb-true, le-leb}
-use Rattle.std.proofs.lemmas.List.{take_at, drop_at, take-append-drop, take-append-le, drop-append-le, drop-drop, length-append, length-take, length-drop, get_or-drop, get_or-take, get_or_past}
-use Rattle.std.proofs.lemmas.Nat.{le_bytes_4, le_bytes_8, from_le_bytes-to_le_bytes_4, from_le_bytes-to_le_bytes_8}
+use Rattle.std.proofs.lemmas.List.{append-nil, take-append-drop, length-append}
 use Rattle.ddt_entry.specs.declared.key.Key.{Key}
 use Rattle.ddt_entry.specs.declared.entry.Home.{Home}
 use Rattle.ddt_entry.specs.declared.entry.Change.{Change}
 use Rattle.ddt_entry.specs.declared.entry.Change.TheVariants.{Entry, Gone}
 use Rattle.ddt_entry.specs.declared.record.Malformed.{Malformed}
+use Rattle.ddt_entry.specs.Bytes.{bytes_at, number_at, number_bytes, AreBytes}
 use Rattle.ddt_entry.specs.Changes.{key_in}
-use Rattle.ddt_entry.specs.Records.{Fields, no_home, fields_of, spelled, record_bytes, number32_at, number64_at, fields_in, is_key_length, is_no_home, malformed, change_of, change_in, AreBytes, IsKeyLength, IsRecord, KeyFits, HomeFits, Fits}
+use Rattle.ddt_entry.specs.Records.{Fields, no_home, fields_of, spelled, record_bytes, fields_in, is_key_length, is_no_home, malformed, change_of, change_in, IsKeyLength, IsRecord, KeyFits, HomeFits, Fits}
+use Rattle.ddt_entry.proofs.Bytes.{length-number_bytes, length-bytes_at, bytes_at-front, AreBytes-bytes_at, AreBytes-concat, AreBytes-number_bytes, number_at-front, number_at-is, number_at-lt, number_bytes-at_4, number_bytes-at_8, zero_bytes, zero_number}
+use Rattle.ddt_entry.proofs.Parts.{offset_of, part_of, cut, concat-cut}
 
--- ---- Pieces of a list
+-- ---- The seven parts
 
--- a field behind a front of its length
-at_field : (front field rest : List ℕ) (n m : ℕ) → length front ≡ n → length field ≡ m → take m (drop n (front ++ (field ++ rest))) ≡ field
-at_field front field rest n m a b = ap (take m) (drop_at front (field ++ rest) n a) ∙ take_at field rest m b
+abbrev parts_of : Fields → List (List ℕ)
+parts_of f =
+    number_bytes 4 f.kind ∷ number_bytes 4 f.key.len ∷ f.key.digest ∷
+    number_bytes 8 f.home.place ∷ number_bytes 8 f.home.birth ∷ number_bytes 8 f.home.since ∷ number_bytes 8 f.home.count ∷ []
 
--- a field and what is behind it
-behind : (bytes rest : List ℕ) (n m : ℕ) → rest ≡ drop (n + m) bytes → take m (drop n bytes) ++ rest ≡ drop n bytes
-behind bytes rest n m e =
-    ap (λ (x : List ℕ). take m (drop n bytes) ++ x) (e ∙ sym (drop-drop m n bytes)) ∙ take-append-drop m (drop n bytes)
+abbrev lens : List ℕ
+lens = 4 ∷ 4 ∷ 32 ∷ 8 ∷ 8 ∷ 8 ∷ 8 ∷ []
 
--- what is behind the fields changes none of them
-piece_first : (bytes rest : List ℕ) (n m : ℕ) → n + m ≤ length bytes → take m (drop n (bytes ++ rest)) ≡ take m (drop n bytes)
-piece_first bytes rest n m long =
-    ap (take m) (drop-append-le n bytes rest (omega arith))
-    ∙ take-append-le m (drop n bytes) rest (omega (arith, length-drop n bytes))
+grouped : (a b d p q s t : List ℕ) → a ++ b ++ d ++ p ++ q ++ s ++ t ≡ concat (a ∷ b ∷ d ∷ p ∷ q ∷ s ∷ t ∷ [])
+grouped a b d p q s t = simp (append_assoc, append-nil)
 
-piece_len : (bytes : List ℕ) (n m : ℕ) → n + m ≤ length bytes → length (take m (drop n bytes)) ≡ m
-piece_len bytes n m long = omega (arith, length-take m (drop n bytes), length-drop n bytes)
+spelled_parts : (f : Fields) → spelled f ≡ concat (parts_of f)
+spelled_parts f =
+    grouped (number_bytes 4 f.kind) (number_bytes 4 f.key.len) f.key.digest (number_bytes 8 f.home.place) (number_bytes 8 f.home.birth) (number_bytes 8 f.home.since) (number_bytes 8 f.home.count)
 
-AreBytes-piece : (bytes : List ℕ) (n m : ℕ) → AreBytes bytes → AreBytes (take m (drop n bytes))
-AreBytes-piece bytes n m fits i =
-    elim (cases_lt i m) [
-      | inl lt ↦ rw (get_or-take m (drop n bytes) i 0 lt, get_or-drop n bytes i 0) (fits (n + i))
-      | inr le ↦ rw (get_or_past (take m (drop n bytes)) i 0 (omega (arith, length-take m (drop n bytes)))) (omega arith)
-    ]
+parts_lens : (f : Fields) → KeyFits f.key → map length (parts_of f) ≡ lens
+parts_lens f fits =
+    let digest = fits.digest_len in
+    simp (length-number_bytes, digest)
 
-AreBytes-append : (xs ys : List ℕ) → AreBytes xs → AreBytes ys → AreBytes (xs ++ ys)
-AreBytes-append [] ys all_xs all_ys i = all_ys i
-AreBytes-append (x ∷ xs) ys all_xs all_ys zero = all_xs 0
-AreBytes-append (x ∷ xs) ys all_xs all_ys (suc i) = AreBytes-append xs ys (λ k. all_xs (suc k)) all_ys i
-
-byte_at-lt : (k n : ℕ) → byte_at k n < 256
-byte_at-lt zero n = mod-lt n (omega arith)
-byte_at-lt (suc k) n = mod-lt (n / 256 ^ suc k) (omega arith)
-
-AreBytes-low_first : (k m n : ℕ) → AreBytes (bytes_low_first k m n)
-AreBytes-low_first k zero n i = omega arith
-AreBytes-low_first k (suc m) n zero = byte_at-lt k n
-AreBytes-low_first k (suc m) n (suc i) = AreBytes-low_first (suc k) m n i
-
--- ---- Seven pieces, one after another
-
-module _ (a b d p q s t : List ℕ) where
-  -- the seven, by what comes last
-  pub regroup : (rest : List ℕ) → a ++ b ++ d ++ p ++ q ++ s ++ t ++ rest ≡ a ++ (b ++ (d ++ (p ++ (q ++ (s ++ (t ++ rest))))))
-  regroup rest = simp append_assoc
-
-  pub all-AreBytes : AreBytes a → AreBytes b → AreBytes d → AreBytes p → AreBytes q → AreBytes s → AreBytes t → AreBytes (a ++ b ++ d ++ p ++ q ++ s ++ t)
-  all-AreBytes fa fb fd fp fq fs ft =
-      AreBytes-append (a ++ b ++ d ++ p ++ q ++ s) t
-      (AreBytes-append (a ++ b ++ d ++ p ++ q) s
-      (AreBytes-append (a ++ b ++ d ++ p) q
-      (AreBytes-append (a ++ b ++ d) p
-      (AreBytes-append (a ++ b) d (AreBytes-append a b fa fb) fd) fp) fq) fs) ft
-
-  module _ (la : length a ≡ 4) (lb : length b ≡ 4) (ld : length d ≡ 32) (lp : length p ≡ 8) (lq : length q ≡ 8) (ls : length s ≡ 8) (lt : length t ≡ 8) where
-    pub piece_0 : (rest : List ℕ) → take 4 (drop 0 (a ++ b ++ d ++ p ++ q ++ s ++ t ++ rest)) ≡ a
-    piece_0 rest =
-        ap (λ (x : List ℕ). take 4 (drop 0 x)) (regroup rest) ∙ at_field [] a (b ++ (d ++ (p ++ (q ++ (s ++ (t ++ rest)))))) 0 4 refl la
-
-    pub piece_4 : (rest : List ℕ) → take 4 (drop 4 (a ++ b ++ d ++ p ++ q ++ s ++ t ++ rest)) ≡ b
-    piece_4 rest =
-        ap (λ (x : List ℕ). take 4 (drop 4 x)) (regroup rest) ∙ at_field a b (d ++ (p ++ (q ++ (s ++ (t ++ rest))))) 4 4 la lb
-
-    pub piece_8 : (rest : List ℕ) → take 32 (drop 8 (a ++ b ++ d ++ p ++ q ++ s ++ t ++ rest)) ≡ d
-    piece_8 rest =
-        let e : a ++ b ++ d ++ p ++ q ++ s ++ t ++ rest ≡ (a ++ b) ++ (d ++ (p ++ (q ++ (s ++ (t ++ rest))))) = simp append_assoc in
-        ap (λ (x : List ℕ). take 32 (drop 8 x)) e ∙ at_field (a ++ b) d (p ++ (q ++ (s ++ (t ++ rest)))) 8 32 (simp length-append (omega arith)) ld
-
-    pub piece_40 : (rest : List ℕ) → take 8 (drop 40 (a ++ b ++ d ++ p ++ q ++ s ++ t ++ rest)) ≡ p
-    piece_40 rest =
-        let e : a ++ b ++ d ++ p ++ q ++ s ++ t ++ rest ≡ (a ++ b ++ d) ++ (p ++ (q ++ (s ++ (t ++ rest)))) = simp append_assoc in
-        ap (λ (x : List ℕ). take 8 (drop 40 x)) e ∙ at_field (a ++ b ++ d) p (q ++ (s ++ (t ++ rest))) 40 8 (simp length-append (omega arith)) lp
-
-    pub piece_48 : (rest : List ℕ) → take 8 (drop 48 (a ++ b ++ d ++ p ++ q ++ s ++ t ++ rest)) ≡ q
-    piece_48 rest =
-        let e : a ++ b ++ d ++ p ++ q ++ s ++ t ++ rest ≡ (a ++ b ++ d ++ p) ++ (q ++ (s ++ (t ++ rest))) = simp append_assoc in
-        ap (λ (x : List ℕ). take 8 (drop 48 x)) e ∙ at_field (a ++ b ++ d ++ p) q (s ++ (t ++ rest)) 48 8 (simp length-append (omega arith)) lq
-
-    pub piece_56 : (rest : List ℕ) → take 8 (drop 56 (a ++ b ++ d ++ p ++ q ++ s ++ t ++ rest)) ≡ s
-    piece_56 rest =
-        let e : a ++ b ++ d ++ p ++ q ++ s ++ t ++ rest ≡ (a ++ b ++ d ++ p ++ q) ++ (s ++ (t ++ rest)) = simp append_assoc in
-        ap (λ (x : List ℕ). take 8 (drop 56 x)) e ∙ at_field (a ++ b ++ d ++ p ++ q) s (t ++ rest) 56 8 (simp length-append (omega arith)) ls
-
-    pub piece_64 : (rest : List ℕ) → take 8 (drop 64 (a ++ b ++ d ++ p ++ q ++ s ++ t ++ rest)) ≡ t
-    piece_64 rest =
-        let e : a ++ b ++ d ++ p ++ q ++ s ++ t ++ rest ≡ (a ++ b ++ d ++ p ++ q ++ s) ++ (t ++ rest) = simp append_assoc in
-        ap (λ (x : List ℕ). take 8 (drop 64 x)) e ∙ at_field (a ++ b ++ d ++ p ++ q ++ s) t rest 64 8 (simp length-append (omega arith)) lt
+-- what stands at a part's place
+part : (f : Fields) (rest : List ℕ) → KeyFits f.key → (k : ℕ) → k < 7 → bytes_at (get_or lens k 0) (offset_of k lens) (spelled f ++ rest) ≡ get_or (parts_of f) k []
+part f rest fits k lt =
+    ap (λ (xs : List ℕ). bytes_at (get_or lens k 0) (offset_of k lens) (xs ++ rest)) (spelled_parts f)
+    ∙ part_of (parts_of f) rest lens (parts_lens f fits) k lt
 
 -- ---- Fields
 
@@ -123,72 +63,52 @@ same_fields k k' l l' d d' p p' b b' s s' c c' ek el ed ep eb es ec = cc
 fields_first : (bytes rest : List ℕ) → 72 ≤ length bytes → fields_in (bytes ++ rest) ≡ fields_in bytes
 fields_first bytes rest long =
     same_fields _ _ _ _ _ _ _ _ _ _ _ _ _ _
-    (ap (from_le_bytes w32) (piece_first bytes rest 0 4 (omega arith)))
-    (ap (from_le_bytes w32) (piece_first bytes rest 4 4 (omega arith)))
-    (piece_first bytes rest 8 32 (omega arith))
-    (ap (from_le_bytes w64) (piece_first bytes rest 40 8 (omega arith)))
-    (ap (from_le_bytes w64) (piece_first bytes rest 48 8 (omega arith)))
-    (ap (from_le_bytes w64) (piece_first bytes rest 56 8 (omega arith)))
-    (ap (from_le_bytes w64) (piece_first bytes rest 64 8 (omega arith)))
+    (number_at-front 4 0 bytes rest (omega arith)) (number_at-front 4 4 bytes rest (omega arith)) (bytes_at-front 32 8 bytes rest (omega arith))
+    (number_at-front 8 40 bytes rest (omega arith)) (number_at-front 8 48 bytes rest (omega arith))
+    (number_at-front 8 56 bytes rest (omega arith)) (number_at-front 8 64 bytes rest (omega arith))
 
 -- the fields that were spelled
 fields_back : (f : Fields) (rest : List ℕ) → f.kind < 2 ^ 32 → KeyFits f.key → HomeFits f.home → fields_in (spelled f ++ rest) ≡ f
 fields_back f rest kind key home =
-    let a : List ℕ = to_le_bytes w32 f.kind in
-    let b : List ℕ = to_le_bytes w32 f.key.len in
-    let p : List ℕ = to_le_bytes w64 f.home.place in
-    let q : List ℕ = to_le_bytes w64 f.home.birth in
-    let s : List ℕ = to_le_bytes w64 f.home.since in
-    let t : List ℕ = to_le_bytes w64 f.home.count in
     same_fields _ f.kind _ f.key.len _ f.key.digest _ f.home.place _ f.home.birth _ f.home.since _ f.home.count
-    (ap (from_le_bytes w32) (piece_0 a b f.key.digest p q s t refl refl key.digest_len refl refl refl refl rest) ∙ from_le_bytes-to_le_bytes_4 f.kind kind)
-    (ap (from_le_bytes w32) (piece_4 a b f.key.digest p q s t refl refl key.digest_len refl refl refl refl rest) ∙ from_le_bytes-to_le_bytes_4 f.key.len key.len)
-    (piece_8 a b f.key.digest p q s t refl refl key.digest_len refl refl refl refl rest)
-    (ap (from_le_bytes w64) (piece_40 a b f.key.digest p q s t refl refl key.digest_len refl refl refl refl rest) ∙ from_le_bytes-to_le_bytes_8 f.home.place home.place)
-    (ap (from_le_bytes w64) (piece_48 a b f.key.digest p q s t refl refl key.digest_len refl refl refl refl rest) ∙ from_le_bytes-to_le_bytes_8 f.home.birth home.birth)
-    (ap (from_le_bytes w64) (piece_56 a b f.key.digest p q s t refl refl key.digest_len refl refl refl refl rest) ∙ from_le_bytes-to_le_bytes_8 f.home.since home.since)
-    (ap (from_le_bytes w64) (piece_64 a b f.key.digest p q s t refl refl key.digest_len refl refl refl refl rest) ∙ from_le_bytes-to_le_bytes_8 f.home.count home.count)
+    (number_at-is 4 0 f.kind (spelled f ++ rest) (part f rest key 0 (omega arith)) kind)
+    (number_at-is 4 4 f.key.len (spelled f ++ rest) (part f rest key 1 (omega arith)) key.len)
+    (part f rest key 2 (omega arith))
+    (number_at-is 8 40 f.home.place (spelled f ++ rest) (part f rest key 3 (omega arith)) home.place)
+    (number_at-is 8 48 f.home.birth (spelled f ++ rest) (part f rest key 4 (omega arith)) home.birth)
+    (number_at-is 8 56 f.home.since (spelled f ++ rest) (part f rest key 5 (omega arith)) home.since)
+    (number_at-is 8 64 f.home.count (spelled f ++ rest) (part f rest key 6 (omega arith)) home.count)
 
-number32_again : (bytes : List ℕ) (n : ℕ) → AreBytes bytes → n + 4 ≤ length bytes → to_le_bytes w32 (number32_at n bytes) ≡ take 4 (drop n bytes)
-number32_again bytes n fits long = le_bytes_4 (take 4 (drop n bytes)) _ (piece_len bytes n 4 long) (AreBytes-piece bytes n 4 fits) refl
-
-number64_again : (bytes : List ℕ) (n : ℕ) → AreBytes bytes → n + 8 ≤ length bytes → to_le_bytes w64 (number64_at n bytes) ≡ take 8 (drop n bytes)
-number64_again bytes n fits long = le_bytes_8 (take 8 (drop n bytes)) _ (piece_len bytes n 8 long) (AreBytes-piece bytes n 8 fits) refl
-
-same_pieces : (a a' b b' d p p' q q' s s' t t' rest : List ℕ) → a ≡ a' → b ≡ b' → p ≡ p' → q ≡ q' → s ≡ s' → t ≡ t'
-    → a ++ (b ++ (d ++ (p ++ (q ++ (s ++ (t ++ rest)))))) ≡ a' ++ (b' ++ (d ++ (p' ++ (q' ++ (s' ++ (t' ++ rest))))))
-same_pieces a a' b b' d p p' q q' s s' t t' rest ea eb ep eq es et = cc
+-- the parts of the fields that were read are the parts of the bytes
+parts_again : (bytes : List ℕ) → AreBytes bytes → 72 ≤ length bytes → parts_of (fields_in bytes) ≡ cut lens 0 bytes
+parts_again bytes fits long =
+    let kind = number_bytes-at_4 0 bytes fits (omega arith) in
+    let len = number_bytes-at_4 4 bytes fits (omega arith) in
+    let place = number_bytes-at_8 40 bytes fits (omega arith) in
+    let birth = number_bytes-at_8 48 bytes fits (omega arith) in
+    let since = number_bytes-at_8 56 bytes fits (omega arith) in
+    let count = number_bytes-at_8 64 bytes fits (omega arith) in
+    rw (kind, len, place, birth, since, count) refl
 
 -- the bytes that were read
 spelled_again : (bytes : List ℕ) → AreBytes bytes → 72 ≤ length bytes → spelled (fields_in bytes) ++ drop 72 bytes ≡ bytes
 spelled_again bytes fits long =
-    let f : Fields = fields_in bytes in
-    regroup (to_le_bytes w32 f.kind) (to_le_bytes w32 f.key.len) f.key.digest (to_le_bytes w64 f.home.place) (to_le_bytes w64 f.home.birth)
-    (to_le_bytes w64 f.home.since) (to_le_bytes w64 f.home.count) (drop 72 bytes)
-    ∙ same_pieces _ _ _ _ f.key.digest _ _ _ _ _ _ _ _ (drop 72 bytes)
-    (number32_again bytes 0 fits (omega arith)) (number32_again bytes 4 fits (omega arith)) (number64_again bytes 40 fits (omega arith))
-    (number64_again bytes 48 fits (omega arith)) (number64_again bytes 56 fits (omega arith)) (number64_again bytes 64 fits (omega arith))
-    ∙ behind bytes _ 0 4 (behind bytes _ 4 4 (behind bytes _ 8 32 (behind bytes _ 40 8 (behind bytes _ 48 8 (behind bytes _ 56 8 (behind bytes _ 64 8 refl))))))
-
-number32-lt : (bytes : List ℕ) → AreBytes bytes → from_le_bytes w32 bytes < 2 ^ 32
-number32-lt bytes fits = omega (arith, fits 0, fits 1, fits 2, fits 3)
-
-number64-lt : (bytes : List ℕ) → AreBytes bytes → from_le_bytes w64 bytes < 2 ^ 64
-number64-lt bytes fits = omega (arith, fits 0, fits 1, fits 2, fits 3, fits 4, fits 5, fits 6, fits 7)
+    let front : spelled (fields_in bytes) ≡ take 72 bytes = spelled_parts (fields_in bytes) ∙ ap concat (parts_again bytes fits long) ∙ concat-cut lens 0 bytes in
+    ap (λ (xs : List ℕ). xs ++ drop 72 bytes) front ∙ take-append-drop 72 bytes
 
 key_fits : (bytes : List ℕ) → AreBytes bytes → 72 ≤ length bytes → KeyFits (fields_in bytes).key
 key_fits bytes fits long = record {
-  len = number32-lt _ (AreBytes-piece bytes 4 4 fits);
-  digest_len = piece_len bytes 8 32 (omega arith);
-  digest = AreBytes-piece bytes 8 32 fits;
+  len = number_at-lt 4 4 bytes fits;
+  digest_len = length-bytes_at 32 8 bytes (omega arith);
+  digest = AreBytes-bytes_at 32 8 bytes fits;
 }
 
 home_fits : (bytes : List ℕ) → AreBytes bytes → HomeFits (fields_in bytes).home
 home_fits bytes fits = record {
-  place = number64-lt _ (AreBytes-piece bytes 40 8 fits);
-  birth = number64-lt _ (AreBytes-piece bytes 48 8 fits);
-  since = number64-lt _ (AreBytes-piece bytes 56 8 fits);
-  count = number64-lt _ (AreBytes-piece bytes 64 8 fits);
+  place = number_at-lt 8 40 bytes fits;
+  birth = number_at-lt 8 48 bytes fits;
+  since = number_at-lt 8 56 bytes fits;
+  count = number_at-lt 8 64 bytes fits;
 }
 
 -- ---- Changes
@@ -284,67 +204,58 @@ was_written bytes change fits long e =
       own.1,
     )
 
+-- a record is 72 bytes
+pub length-record : (change : Change) → Fits change → length (record_bytes change) ≡ 72
+length-record change fits =
+    let digest = (key-fits change fits).digest_len in
+    simp (length-append, length-number_bytes, digest)
+
 pub record-AreBytes : (change : Change) → Fits change → AreBytes (record_bytes change)
 record-AreBytes change fits =
     let f : Fields = fields_of change in
-    all-AreBytes (to_le_bytes w32 f.kind) (to_le_bytes w32 f.key.len) f.key.digest (to_le_bytes w64 f.home.place) (to_le_bytes w64 f.home.birth)
-    (to_le_bytes w64 f.home.since) (to_le_bytes w64 f.home.count)
-    (AreBytes-low_first 0 4 f.kind) (AreBytes-low_first 0 4 f.key.len) (key-fits change fits).digest (AreBytes-low_first 0 8 f.home.place)
-    (AreBytes-low_first 0 8 f.home.birth) (AreBytes-low_first 0 8 f.home.since) (AreBytes-low_first 0 8 f.home.count)
+    subst AreBytes (sym (spelled_parts f))
+    (AreBytes-concat (parts_of f) (
+      AreBytes-number_bytes 4 f.kind,
+      (
+        AreBytes-number_bytes 4 f.key.len,
+        (
+          (key-fits change fits).digest,
+          (
+            AreBytes-number_bytes 8 f.home.place,
+            (AreBytes-number_bytes 8 f.home.birth, (AreBytes-number_bytes 8 f.home.since, (AreBytes-number_bytes 8 f.home.count, tt))),
+          ),
+        ),
+      ),
+    ))
 
 pub reads_first : (bytes rest : List ℕ) → 72 ≤ length bytes → change_in (bytes ++ rest) ≡ change_in bytes
 reads_first bytes rest long = ap change_of (fields_first bytes rest long)
 
 -- ---- The table
 
--- a number is 0 exactly where its bytes are
-bytes_zero : (bytes : List ℕ) → from_le_bytes w64 bytes ≡ 0 → (i : ℕ) → i < 8 → get_or bytes i 0 ≡ 0
-bytes_zero bytes e zero h = omega arith
-bytes_zero bytes e (suc zero) h = omega arith
-bytes_zero bytes e (suc (suc zero)) h = omega arith
-bytes_zero bytes e (suc (suc (suc zero))) h = omega arith
-bytes_zero bytes e (suc (suc (suc (suc zero)))) h = omega arith
-bytes_zero bytes e (suc (suc (suc (suc (suc zero))))) h = omega arith
-bytes_zero bytes e (suc (suc (suc (suc (suc (suc zero)))))) h = omega arith
-bytes_zero bytes e (suc (suc (suc (suc (suc (suc (suc zero))))))) h = omega arith
-bytes_zero bytes e (suc (suc (suc (suc (suc (suc (suc (suc i)))))))) h = absurd (omega arith)
-
-number_zero : (bytes : List ℕ) → ((i : ℕ) → i < 8 → get_or bytes i 0 ≡ 0) → from_le_bytes w64 bytes ≡ 0
-number_zero bytes z =
-    omega (arith, z 0 (omega arith), z 1 (omega arith), z 2 (omega arith), z 3 (omega arith), z 4 (omega arith), z 5 (omega arith), z 6 (omega arith), z 7 (omega arith))
-
-zeros_at : (bytes : List ℕ) (n : ℕ) → number64_at n bytes ≡ 0 → (i : ℕ) → i < 8 → get_or bytes (n + i) 0 ≡ 0
-zeros_at bytes n e i h =
-    sym (get_or-drop n bytes i 0) ∙ sym (get_or-take 8 (drop n bytes) i 0 h) ∙ bytes_zero (take 8 (drop n bytes)) e i h
-
-number_at-zero : (bytes : List ℕ) (n : ℕ) → ((i : ℕ) → i < 8 → get_or bytes (n + i) 0 ≡ 0) → number64_at n bytes ≡ 0
-number_at-zero bytes n z =
-    number_zero (take 8 (drop n bytes)) (λ i h. get_or-take 8 (drop n bytes) i 0 h ∙ get_or-drop n bytes i 0 ∙ z i h)
-
-moved : (bytes : List ℕ) (i j : ℕ) → i ≡ j → get_or bytes i 0 ≡ 0 → get_or bytes j 0 ≡ 0
-moved bytes i j e h = let P : ℕ → Type 0 = λ k. get_or bytes k 0 ≡ 0 in subst P e h
-
-zeros_from : (bytes : List ℕ) → number64_at 40 bytes ≡ 0 → number64_at 48 bytes ≡ 0 → number64_at 56 bytes ≡ 0 → number64_at 64 bytes ≡ 0
-    → (i : ℕ) → i < 32 → get_or bytes (40 + i) 0 ≡ 0
-zeros_from bytes a b c d i h =
+zeros_from : (bytes : List ℕ) → (fields_in bytes).home ≡ no_home → (i : ℕ) → i < 32 → get_or bytes (40 + i) 0 ≡ 0
+zeros_from bytes none i h =
     elim (cases_lt i 8) [
-      | inl lt ↦ zeros_at bytes 40 a i lt
+      | inl lt ↦ zero_bytes 8 40 bytes (ap (λ (home : Home). home.place) none) (40 + i) (omega arith) (omega arith)
       | inr le ↦ elim (cases_lt i 16) [
-        | inl lt ↦ moved bytes (48 + (i - 8)) (40 + i) (omega arith) (zeros_at bytes 48 b (i - 8) (omega arith))
+        | inl lt ↦ zero_bytes 8 48 bytes (ap (λ (home : Home). home.birth) none) (40 + i) (omega arith) (omega arith)
         | inr le ↦ elim (cases_lt i 24) [
-          | inl lt ↦ moved bytes (56 + (i - 16)) (40 + i) (omega arith) (zeros_at bytes 56 c (i - 16) (omega arith))
-          | inr le ↦ moved bytes (64 + (i - 24)) (40 + i) (omega arith) (zeros_at bytes 64 d (i - 24) (omega arith))
+          | inl lt ↦ zero_bytes 8 56 bytes (ap (λ (home : Home). home.since) none) (40 + i) (omega arith) (omega arith)
+          | inr le ↦ zero_bytes 8 64 bytes (ap (λ (home : Home). home.count) none) (40 + i) (omega arith) (omega arith)
         ]
       ]
     ]
 
 no_home-said : (bytes : List ℕ) → ((i : ℕ) → i < 32 → get_or bytes (40 + i) 0 ≡ 0) → (fields_in bytes).home ≡ no_home
 no_home-said bytes z =
-    let place : number64_at 40 bytes ≡ 0 = number_at-zero bytes 40 (λ i h. z i (omega arith)) in
-    let birth : number64_at 48 bytes ≡ 0 = number_at-zero bytes 48 (λ i h. moved bytes (40 + (8 + i)) (48 + i) (omega arith) (z (8 + i) (omega arith))) in
-    let since : number64_at 56 bytes ≡ 0 = number_at-zero bytes 56 (λ i h. moved bytes (40 + (16 + i)) (56 + i) (omega arith) (z (16 + i) (omega arith))) in
-    let count : number64_at 64 bytes ≡ 0 = number_at-zero bytes 64 (λ i h. moved bytes (40 + (24 + i)) (64 + i) (omega arith) (z (24 + i) (omega arith))) in
-    same_home _ _ _ _ _ _ _ _ place birth since count
+    same_home _ _ _ _ _ _ _ _
+    (zero_number 8 40 bytes (λ i from below. zero_at i (omega arith) (omega arith))) (zero_number 8 48 bytes (λ i from below. zero_at i (omega arith) (omega arith)))
+    (zero_number 8 56 bytes (λ i from below. zero_at i (omega arith) (omega arith))) (zero_number 8 64 bytes (λ i from below. zero_at i (omega arith) (omega arith)))
+  where
+    zero_at : (i : ℕ) → 40 ≤ i → i < 72 → get_or bytes i 0 ≡ 0
+    zero_at i from below =
+        let there : i ≡ 40 + (i - 40) = omega arith in
+        ap (λ (j : ℕ). get_or bytes j 0) there ∙ z (i - 40) (omega arith)
 
 is_no_home-true : (home : Home) → home ≡ no_home → is_no_home home ≡ true
 is_no_home-true home e = ap is_no_home e
@@ -372,7 +283,7 @@ record_says bytes r =
           (Gone f.key, judged_two (is_key_length f.key.len) (eqb f.kind 1) (eqb f.kind 2 && is_no_home f.home) entry (Gone f.key) len other both)
     ]
 
-len_said : (bytes : List ℕ) (change : Change) → fields_in bytes ≡ fields_of change → IsKeyLength (key_in change).len → IsKeyLength (number32_at 4 bytes)
+len_said : (bytes : List ℕ) (change : Change) → fields_in bytes ≡ fields_of change → IsKeyLength (key_in change).len → IsKeyLength (number_at 4 4 bytes)
 len_said bytes change same len =
     let P : Key → Type 0 = λ k. IsKeyLength k.len in
     subst P (sym (ap (λ (f : Fields). f.key) same ∙ key-said change)) len
@@ -380,13 +291,12 @@ len_said bytes change same len =
 -- what says a change is a record
 says_record : (bytes : List ℕ) (change : Change) → fields_in bytes ≡ fields_of change → IsKeyLength (key_in change).len → IsRecord bytes
 says_record bytes (Entry entry) same len =
-    let kind : number32_at 0 bytes ≡ 1 = ap (λ (f : Fields). f.kind) same in
+    let kind : number_at 4 0 bytes ≡ 1 = ap (λ (f : Fields). f.kind) same in
     record { kind = inl kind; len = len_said bytes (Entry entry) same len; gone = λ two. absurd (omega arith) }
 says_record bytes (Gone key) same len = record {
   kind = inr (ap (λ (f : Fields). f.kind) same);
   len = len_said bytes (Gone key) same len;
-  gone = λ two. zeros_from bytes (ap (λ (f : Fields). f.home.place) same) (ap (λ (f : Fields). f.home.birth) same)
-      (ap (λ (f : Fields). f.home.since) same) (ap (λ (f : Fields). f.home.count) same);
+  gone = λ two. zeros_from bytes (ap (λ (f : Fields). f.home) same);
 }
 
 change_from : (r : Result Change Malformed) → IsOk r → (change : Change) × (r ≡ Ok change)

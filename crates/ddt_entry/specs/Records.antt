@@ -10,8 +10,8 @@
 --       64      8  the home's count
 --
 -- A key that has gone has 0 in the last four.
-use Rattle.std.specs.Prelude.{◌≡◌, ℕ, ◌+◌, ◌^◌, ◌<◌, ◌≤◌, Bool, not, ◌==◌, ◌&&◌, nat_le, if◌then◌else◌, ◌⊎◌, List, ◌++◌, length, take, drop, slice_index, Result, Ok, Err}
-use Rattle.std.specs.Int.{w32, w64, to_le_bytes, from_le_bytes}
+use Rattle.std.specs.Prelude.{◌≡◌, ℕ, ◌+◌, ◌^◌, ◌<◌, ◌≤◌, Bool, not, ◌==◌, ◌&&◌, nat_le, if◌then◌else◌, ◌⊎◌, List, ◌++◌, length, slice_index, Result, Ok, Err}
+use Rattle.ddt_entry.specs.Bytes.{bytes_at, number_at, number_bytes, AreBytes}
 use Rattle.ddt_entry.specs.declared.key.Key.{Key}
 use Rattle.ddt_entry.specs.declared.entry.Home.{Home}
 use Rattle.ddt_entry.specs.declared.entry.Change.{Change}
@@ -38,13 +38,13 @@ fields_of (Gone key) = record { kind = 2; key = key; home = no_home }
 -- the fields as bytes, one after another
 abbrev pub spelled : Fields → List ℕ
 spelled fields =
-    to_le_bytes w32 fields.kind
-    ++ to_le_bytes w32 fields.key.len
+    number_bytes 4 fields.kind
+    ++ number_bytes 4 fields.key.len
     ++ fields.key.digest
-    ++ to_le_bytes w64 fields.home.place
-    ++ to_le_bytes w64 fields.home.birth
-    ++ to_le_bytes w64 fields.home.since
-    ++ to_le_bytes w64 fields.home.count
+    ++ number_bytes 8 fields.home.place
+    ++ number_bytes 8 fields.home.birth
+    ++ number_bytes 8 fields.home.since
+    ++ number_bytes 8 fields.home.count
 
 -- the one spelling of a change: 72 bytes
 abbrev pub record_bytes : Change → List ℕ
@@ -52,24 +52,16 @@ record_bytes change = spelled (fields_of change)
 
 -- ---- What bytes spell
 
--- the number in the 4 bytes from an offset
-abbrev pub number32_at : ℕ → List ℕ → ℕ
-number32_at offset bytes = from_le_bytes w32 (take 4 (drop offset bytes))
-
--- the number in the 8 bytes from an offset
-abbrev pub number64_at : ℕ → List ℕ → ℕ
-number64_at offset bytes = from_le_bytes w64 (take 8 (drop offset bytes))
-
 -- the fields in the first 72 bytes
 abbrev pub fields_in : List ℕ → Fields
 fields_in bytes = record {
-  kind = number32_at 0 bytes;
-  key = record { len = number32_at 4 bytes; digest = take 32 (drop 8 bytes) };
+  kind = number_at 4 0 bytes;
+  key = record { len = number_at 4 4 bytes; digest = bytes_at 32 8 bytes };
   home = record {
-    place = number64_at 40 bytes;
-    birth = number64_at 48 bytes;
-    since = number64_at 56 bytes;
-    count = number64_at 64 bytes;
+    place = number_at 8 40 bytes;
+    birth = number_at 8 48 bytes;
+    since = number_at 8 56 bytes;
+    count = number_at 8 64 bytes;
   };
 }
 
@@ -99,19 +91,15 @@ change_in bytes = change_of (fields_in bytes)
 
 -- ---- Which bytes and which changes have the form
 
--- each is a byte
-abbrev pub AreBytes : List ℕ → Type 0
-AreBytes bytes = (i : ℕ) → slice_index bytes i < 256
-
 -- a key can have this length in bytes
 abbrev pub IsKeyLength : ℕ → Type 0
 IsKeyLength len = (1 ≤ len) × (len ≤ 4_096)
 
 -- the bytes begin with a record, by the table
 pub record IsRecord (bytes : List ℕ) : Type 0 where
-  pub kind : (number32_at 0 bytes ≡ 1) ⊎ (number32_at 0 bytes ≡ 2)
-  pub len : IsKeyLength (number32_at 4 bytes)
-  pub gone : number32_at 0 bytes ≡ 2 → (i : ℕ) → i < 32 → slice_index bytes (40 + i) ≡ 0
+  pub kind : (number_at 4 0 bytes ≡ 1) ⊎ (number_at 4 0 bytes ≡ 2)
+  pub len : IsKeyLength (number_at 4 4 bytes)
+  pub gone : number_at 4 0 bytes ≡ 2 → (i : ℕ) → i < 32 → slice_index bytes (40 + i) ≡ 0
 
 -- each part of the key fits its field
 pub record KeyFits (key : Key) : Type 0 where

@@ -12,10 +12,14 @@
 //! The table of the fields stands in `specs/Records.antt`, and the laws that tie both directions are the
 //! clauses of `records_read_back` and `records_by_the_table`. A `Pointer` is what a slot holds in an image.
 //!
-//! Every crate that speaks of blocks stands on these types. Nothing here allocates.
+//! `fields` reads a number or a part at an offset of bytes. The words for these, in which each form of an
+//! image is written down, stand in `specs/Bytes.antt`, and their laws in `proofs/Bytes.antt`.
+//!
+//! Every crate that speaks of blocks, or of the bytes of an image, stands on these. Nothing here allocates.
 #![tactic(auto)]
 
 mod entry;
+pub mod fields;
 mod key;
 mod record;
 mod sha256_key;

@@ -1,11 +1,13 @@
 //! A change as 72 bytes, and back.
 
-ghost use Rattle.std.specs.Prelude.{◌≡◌, ℕ, ◌+◌, ◌≤◌, ◌↔◌, List, ◌++◌, length, drop, Ok, IsOk};
+ghost use Rattle.std.specs.Prelude.{◌≡◌, ℕ, ◌≤◌, ◌↔◌, List, ◌++◌, length, drop, Ok, IsOk};
 ghost use Rattle.ddt_entry.specs.declared.entry.Change.{Change};
+ghost use Rattle.ddt_entry.specs.Bytes.{AreBytes};
 ghost use Rattle.ddt_entry.specs.Changes.{key_in};
-ghost use Rattle.ddt_entry.specs.Records.{Fields, spelled, record_bytes, number32_at, number64_at, fields_in, malformed, change_of, change_in, AreBytes, IsKeyLength, IsRecord, KeyFits, HomeFits, Fits};
+ghost use Rattle.ddt_entry.specs.Records.{Fields, spelled, record_bytes, fields_in, malformed, change_of, change_in, IsKeyLength, IsRecord, KeyFits, HomeFits, Fits};
 
 use crate::entry::{Change, Entry, Home};
+use crate::fields::{array_at, u32_at, u64_at};
 use crate::key::Key;
 
 /// The bytes of a record.
@@ -32,40 +34,12 @@ const NO_HOME: Home = Home {
 #[derive(Clone, Copy, Debug, PartialEq, Eq)]
 pub struct Malformed;
 
-/// The number in the 4 bytes from an offset.
-fn u32_at(bytes: &[u8], offset: usize) -> u32
-    requires { offset + 4 ≤ length bytes.now }
-    ensures { result ≡ number32_at offset bytes.now }
-{
-    let (_, behind) = bytes.split_at(offset);
-    let (field, _) = behind.split_at(4);
-    let mut number = [0; 4];
-    number.copy_from_slice(field);
-    u32::from_le_bytes(number)
-}
-
-/// The number in the 8 bytes from an offset.
-fn u64_at(bytes: &[u8], offset: usize) -> u64
-    requires { offset + 8 ≤ length bytes.now }
-    ensures { result ≡ number64_at offset bytes.now }
-{
-    let (_, behind) = bytes.split_at(offset);
-    let (field, _) = behind.split_at(8);
-    let mut number = [0; 8];
-    number.copy_from_slice(field);
-    u64::from_le_bytes(number)
-}
-
 /// The key that the fields say.
 fn key_at(from: &[u8; RECORD_BYTES]) -> Key
     ensures { result ≡ (fields_in from.now).key }
 {
-    let (_, behind) = from.split_at(8);
-    let (field, _) = behind.split_at(32);
-    let mut digest = [0; 32];
-    digest.copy_from_slice(field);
     Key {
-        digest,
+        digest: array_at(from, 8),
         len: u32_at(from, 4),
     }
 }
@@ -106,6 +80,7 @@ pub fn read_change(from: &[u8; RECORD_BYTES]) -> Result<Change, Malformed>
 }
 
 /// Writes the seven fields, one behind the other.
+#[tactic(auto, unfolding(crate::specs::Bytes::number_bytes))]
 fn write_fields(kind: u32, key: &Key, home: &Home, out: &mut [u8; RECORD_BYTES])
     ensures { out.new ≡ spelled (record { kind = kind; key = key.now; home = home.now }) }
 {

@@ -1,3 +1,4 @@
+use crate::fields::{array_at, u32_at, u64_at};
 use crate::{
     Change, Entry, Home, Key, KeyOf, MAX_BLOCK_BYTES, Malformed, RECORD_BYTES, Sha256Key, WeakKey,
     key_of, read_change, write_change,
@@ -186,4 +187,14 @@ fn an_entry_may_have_any_numbers(rt: HostRuntime) {
         let bytes = record_of(&rt, &entry);
         assert_eq!(rt; read_change(&bytes), Ok(entry), "at {len} and {number}");
     }
+}
+
+#[test]
+fn numbers_are_read_lowest_byte_first_at_their_offsets(rt: HostRuntime) {
+    let bytes = [1, 2, 3, 0, 0, 0xd4, 0xc3, 0xb2, 0xa1, 0, 0, 0, 0, 0, 0, 0];
+    assert_eq!(rt; u32_at(&bytes, 5), 0xa1b2_c3d4);
+    assert_eq!(rt; u64_at(&bytes, 1), 0xa1b2_c3d4_0000_0302);
+    assert_eq!(rt; u64_at(&bytes, 8), 0xa1);
+    assert_eq!(rt; array_at::<3>(&bytes, 0), [1, 2, 3]);
+    assert_eq!(rt; array_at::<2>(&bytes, 5), [0xd4, 0xc3]);
 }

@@ -2,10 +2,10 @@
 use Rattle.std.proofs.Common.{◌≡◌, ℕ, zero, suc, ◌+◌, ◌*◌, ◌≤◌, List, [], ◌∷◌, ◌++◌, length, take, drop, refl, ap, ◌∙◌, append_assoc, arith}
 use Rattle.std.specs.List.{flat_map, AllByRecursion}
 use Rattle.std.proofs.lemmas.List.{length-append, length-drop, drop_at}
-use Rattle.page_tree.specs.Bytes.{bytes_at, number_bytes, zeros, AreBytes}
+use Rattle.ddt_entry.specs.Bytes.{bytes_at, number_bytes, zeros, AreBytes}
 use Rattle.page_tree.specs.Pointers.{FitsPointer, null_pointer, pointer_bytes, pointer_in, pointers_in}
 use Rattle.page_tree.specs.declared.pointer.PagePtr.{PagePtr}
-use Rattle.page_tree.proofs.Bytes.{length-number_bytes, length-bytes_at, bytes_at-behind, take-add, AreBytes-drop, AreBytes-bytes_at, number_at-is, number_at-lt, number_bytes-at_8}
+use Rattle.ddt_entry.proofs.Bytes.{length-number_bytes, length-bytes_at, bytes_at-behind, take-add, AreBytes-drop, AreBytes-bytes_at, number_at-is, number_at-lt, number_bytes-at_8}
 
 abbrev pointer_of : ℕ → List ℕ → PagePtr
 pointer_of sector digest = record { sector = sector; digest = digest }

@@ -1,6 +1,6 @@
 -- What page pointers are, and how they are spelled.
 use Rattle.std.specs.Prelude.{◌≡◌, ℕ, zero, suc, ◌<◌, ◌^◌, List, [], ◌∷◌, ◌++◌, length, drop, replicate}
-use Rattle.page_tree.specs.Bytes.{bytes_at, number_at, number_bytes, AreBytes}
+use Rattle.ddt_entry.specs.Bytes.{bytes_at, number_at, number_bytes, AreBytes}
 use Rattle.page_tree.specs.declared.pointer.PagePtr.{PagePtr}
 
 -- the pointer to no page

@@ -3,7 +3,7 @@
 
 ghost use Rattle.std.specs.Prelude.{◌≡◌, ◌+◌, ◌-◌, ◌≤◌, ◌++◌, length};
 ghost use Rattle.arrayvec.specs.ArrayVec.{array_vec_len};
-ghost use Rattle.page_tree.specs.Bytes.{number_bytes, zeros};
+ghost use Rattle.ddt_entry.specs.Bytes.{number_bytes, zeros};
 
 use arrayvec::ArrayVec;
 
@@ -17,7 +17,7 @@ pub fn put<const N: usize>(front: &mut ArrayVec<u8, N>, part: &[u8])
 }
 
 /// Appends a number as 4 bytes, the lowest first.
-#[tactic(auto, unfolding(crate::specs::Bytes::number_bytes))]
+#[tactic(auto, unfolding(ddt_entry::specs::Bytes::number_bytes))]
 pub fn put_u32<const N: usize>(front: &mut ArrayVec<u8, N>, number: u32)
     requires { array_vec_len front.old + 4 ≤ N }
     ensures items { front.new.items ≡ front.old.items ++ number_bytes 4 number }
@@ -27,7 +27,7 @@ pub fn put_u32<const N: usize>(front: &mut ArrayVec<u8, N>, number: u32)
 }
 
 /// Appends a number as 8 bytes, the lowest first.
-#[tactic(auto, unfolding(crate::specs::Bytes::number_bytes))]
+#[tactic(auto, unfolding(ddt_entry::specs::Bytes::number_bytes))]
 pub fn put_u64<const N: usize>(front: &mut ArrayVec<u8, N>, number: u64)
     requires { array_vec_len front.old + 8 ≤ N }
     ensures items { front.new.items ≡ front.old.items ++ number_bytes 8 number }

@@ -5,8 +5,8 @@
 //! stands in other pages, and in the seal, as 40 bytes: the sector as a little-endian number, and the
 //! digest. The null pointer is 40 zeros, and names no page.
 //!
-//! `front` builds the bytes of a sector piece by piece, and `fields` reads what stands at an offset.
-//! Neither takes memory, and neither can fail: the caller proves that a part fits.
+//! `front` builds the bytes of a sector piece by piece. It takes no memory, and it cannot fail: the
+//! caller proves that a part fits. What stands at an offset is read by `ddt_entry::fields`.
 //!
 //! `PageReader` reads the page of a pointer and compares its digest; `PlainReader` does so by one read
 //! of the disk.
@@ -15,7 +15,6 @@
 #![tactic(auto)]
 
 mod fault;
-pub mod fields;
 pub mod front;
 mod pointer;
 mod reader;

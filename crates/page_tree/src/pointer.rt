@@ -1,12 +1,12 @@
 ghost use Rattle.std.specs.Prelude.{◌≡◌, ◌≤◌, ◌++◌, List, ℕ, length, take};
 ghost use Rattle.std.specs.List.{AllByRecursion};
-ghost use Rattle.page_tree.specs.Bytes.{AreBytes, zeros};
+ghost use Rattle.ddt_entry.specs.Bytes.{AreBytes, zeros};
 ghost use Rattle.page_tree.specs.Pointers.{FitsPointer, null_pointer, pointer_bytes, pointer_in};
 ghost use Rattle.page_tree.specs.declared.pointer.PagePtr.{PagePtr};
 
-use crate::fields::{array_at, u64_at};
 use crate::front::{full_array, put, put_u64};
 use arrayvec::ArrayVec;
+use ddt_entry::fields::{array_at, u64_at};
 
 /// Names a page: where it lies, and what it says.
 #[derive(Clone, Copy, Debug, PartialEq, Eq)]

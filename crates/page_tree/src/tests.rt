@@ -1,4 +1,3 @@
-use crate::fields::{array_at, u32_at, u64_at};
 use crate::front::{full_array, pad_to, put};
 use crate::{FindFault, PageFault, PagePtr};
 use arrayvec::ArrayVec;
@@ -36,9 +35,6 @@ fn a_front_is_its_parts_and_zeros(rt: HostRuntime) {
     let bytes = full_array(front);
     let expected = [1, 2, 3, 0, 0, 0xd4, 0xc3, 0xb2, 0xa1, 0, 0, 0, 0, 0, 0, 0];
     assert_eq!(rt; bytes, expected);
-    assert_eq!(rt; u32_at(&bytes, 5), 0xa1b2_c3d4);
-    assert_eq!(rt; u64_at(&bytes, 1), 0xa1b2_c3d4_0000_0302);
-    assert_eq!(rt; array_at::<3>(&bytes, 0), [1, 2, 3]);
 }
 
 #[test]

@@ -2,8 +2,8 @@
 use Rattle.std.proofs.Common.{◌≡◌, ℕ, ◌+◌, true, false, List, length, take, refl, ap, ◌∙◌, arith}
 use Rattle.std.specs.Str.{bytes_eq}
 use Rattle.std.proofs.lemmas.List.{take-replicate, length-append}
-use Rattle.page_tree.specs.Bytes.{zeros}
-use Rattle.page_tree.proofs.Bytes.{length-zeros}
+use Rattle.ddt_entry.specs.Bytes.{zeros}
+use Rattle.ddt_entry.proofs.Bytes.{length-zeros}
 use Rattle.uber_ring.specs.Seals.{open_text, is_open, open_gate, closed_gate}
 
 pub opens : is_open open_gate ≡ true

@@ -1,6 +1,5 @@
 pub mod Digests
 pub mod Gates
-pub mod Parts
 pub mod SealLaws
 pub mod RingLaws
 pub mod Told

@@ -7,14 +7,14 @@ use Rattle.std.proofs.lemmas.Bool.{eq-eqb}
 use Rattle.std.proofs.lemmas.List.{append-nil, length-append, take_all, take_at, drop_at, take-append-drop}
 use Rattle.std.proofs.lemmas.Slice.Eq.{bytes_eq-Decides}
 use Rattle.sha2.specs.Sha256.{sha256}
-use Rattle.page_tree.specs.Bytes.{bytes_at, number_at, number_bytes, zeros, AreBytes}
+use Rattle.ddt_entry.specs.Bytes.{bytes_at, number_at, number_bytes, zeros, AreBytes}
 use Rattle.page_tree.specs.Pointers.{pointer_bytes, pointers_in}
-use Rattle.page_tree.proofs.Bytes.{length-number_bytes, length-zeros, length-bytes_at, number_at-is, number_bytes-at_4, number_bytes-at_8, AreBytes-bytes_at}
+use Rattle.ddt_entry.proofs.Bytes.{length-number_bytes, length-zeros, length-bytes_at, number_at-is, number_bytes-at_4, number_bytes-at_8, AreBytes-bytes_at}
 use Rattle.page_tree.proofs.PointerLaws.{length-flat_map_pointers, pointers_in-flat_map, flat_map-pointers_in}
 use Rattle.uber_ring.specs.Seals.{FitsSeal, seal_text, seal_in, is_body, body_seal, settings_bytes, state_bytes, pointers_bytes, sums_bytes, signed_bytes, body_bytes}
 use Rattle.uber_ring.specs.declared.seal.Seal.{Seal}
 use Rattle.uber_ring.proofs.Digests.{length-sha256}
-use Rattle.uber_ring.proofs.Parts.{offset_of, part_of, cut, concat-cut}
+use Rattle.ddt_entry.proofs.Parts.{offset_of, part_of, cut, concat-cut}
 
 -- ---- the parts that the digest is of
 

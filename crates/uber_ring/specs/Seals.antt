@@ -3,7 +3,7 @@ use Rattle.std.specs.Prelude.{◌≡◌, ℕ, ◌==◌, ◌%◌, ◌<◌, ◌^�
 use Rattle.std.specs.List.{flat_map, AllByRecursion}
 use Rattle.std.specs.Str.{bytes_eq}
 use Rattle.sha2.specs.Sha256.{sha256}
-use Rattle.page_tree.specs.Bytes.{bytes_at, number_at, number_bytes, zeros, AreBytes}
+use Rattle.ddt_entry.specs.Bytes.{bytes_at, number_at, number_bytes, zeros, AreBytes}
 use Rattle.page_tree.specs.Pointers.{FitsPointer, pointer_bytes, pointers_in}
 use Rattle.uber_ring.specs.declared.seal.Seal.{Seal}
 

@@ -1,15 +1,15 @@
 ghost use Rattle.std.specs.Prelude.{◌≡◌, ◌%◌, ◌≤◌, ℕ, List, true, length, take, drop};
 ghost use Rattle.std.specs.Str.{bytes_eq};
 ghost use Rattle.sha2.specs.Sha256.{sha256};
-ghost use Rattle.page_tree.specs.Bytes.{AreBytes, bytes_at, zeros};
+ghost use Rattle.ddt_entry.specs.Bytes.{AreBytes, bytes_at, zeros};
 ghost use Rattle.page_tree.specs.Pointers.{pointers_in};
 ghost use Rattle.uber_ring.specs.Seals.{FitsSeal, body_bytes, body_seal, is_body, pointers_bytes, seal_in, seal_text, settings_bytes, signed_bytes, state_bytes, sums_bytes};
 ghost use Rattle.uber_ring.specs.declared.seal.Seal.{Seal};
 
 use crate::seal::Seal;
 use arrayvec::ArrayVec;
+use ddt_entry::fields::{array_at, u32_at, u64_at};
 use page_tree::PagePtr;
-use page_tree::fields::{array_at, u32_at, u64_at};
 use page_tree::front::{full_array, pad_to, put, put_u32, put_u64};
 use sha2::{Digest, Sha256};
 

@@ -1,6 +1,6 @@
 use Rattle.std.proofs.Common.{◌≡◌, ◌≤◌, ◌-◌, ◌∙◌, ap, length, ◌++◌, ◌∷◌, [], ℕ, List, arith}
-use Rattle.page_tree.specs.Bytes.{zeros}
-use Rattle.page_tree.proofs.Bytes.{zeros_none, zeros_more}
+use Rattle.ddt_entry.specs.Bytes.{zeros}
+use Rattle.ddt_entry.proofs.Bytes.{zeros_none, zeros_more}
 use Rattle.page_tree.proofs.front.pad_to.Goals as goal
 
 pub zeros-init : goal.zeros-init

@@ -1,5 +1,5 @@
 use Rattle.std.proofs.Common.{◌≡◌, ◌-◌, ◌++◌, length}
-use Rattle.page_tree.specs.Bytes.{zeros}
+use Rattle.ddt_entry.specs.Bytes.{zeros}
 use Rattle.page_tree.proofs.front.pad_to.Given as goal
 
 abbrev pub invariant-zeros : goal.invariant-zeros

@@ -3,8 +3,8 @@
 use Rattle.std.proofs.Common.{◌≡◌, ℕ, zero, suc, ◌+◌, ◌<◌, List, [], ◌∷◌, ◌++◌, append_assoc, length, get_or, take, drop, map, refl, sym, ap, subst, ◌∙◌, arith}
 use Rattle.std.specs.List.{concat}
 use Rattle.std.proofs.lemmas.List.{append-nil, drop_at, drop-drop}
-use Rattle.page_tree.specs.Bytes.{bytes_at}
-use Rattle.page_tree.proofs.Bytes.{bytes_at-behind, take-add}
+use Rattle.ddt_entry.specs.Bytes.{bytes_at}
+use Rattle.ddt_entry.proofs.Bytes.{bytes_at-behind, take-add}
 
 -- the sum of the first k lengths
 abbrev pub offset_of : ℕ → List ℕ → ℕ

@@ -1,7 +1,8 @@
-//! What stands at an offset of a sector's bytes.
+//! What stands at an offset of bytes. Nothing here takes memory or fails: the caller proves that the
+//! bytes reach far enough.
 
 ghost use Rattle.std.specs.Prelude.{◌≡◌, ◌+◌, ◌≤◌, length};
-ghost use Rattle.page_tree.specs.Bytes.{AreBytes, bytes_at, number_at};
+ghost use Rattle.ddt_entry.specs.Bytes.{AreBytes, bytes_at, number_at};
 
 use byteorder::{ByteOrder, LittleEndian};
 

@@ -1,7 +1,7 @@
 use Rattle.std.proofs.Common.{◌∙◌, ap, List, ℕ}
 use Rattle.byteorder.specs.Endian.{little_number}
-use Rattle.page_tree.proofs.Bytes.{number_at-drop}
-use Rattle.page_tree.proofs.fields.u32_at.Goals as goal
+use Rattle.ddt_entry.proofs.Bytes.{number_at-drop}
+use Rattle.ddt_entry.proofs.fields.u32_at.Goals as goal
 
 pub returns : goal.returns
 returns c =

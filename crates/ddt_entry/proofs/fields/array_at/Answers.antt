@@ -1,6 +1,6 @@
 use Rattle.std.proofs.Common.{ap, ◌∙◌, take, List, ℕ}
-use Rattle.page_tree.specs.Bytes.{bytes_at}
-use Rattle.page_tree.proofs.fields.array_at.Goals as goal
+use Rattle.ddt_entry.specs.Bytes.{bytes_at}
+use Rattle.ddt_entry.proofs.fields.array_at.Goals as goal
 
 pub returns : goal.returns
 unfolding bytes_at
