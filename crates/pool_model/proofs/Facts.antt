@@ -15,7 +15,7 @@ unfolding pool_on_literals
 edge_file = refl
 
 pub limits : Limits
-limits = record { longest_file = refl; sixteen = refl; block = refl; longer = refl; writes = refl; one_more = refl }
+limits = record { longest_file = refl; sixteen = refl; powers = refl; block = refl; longer = refl; writes = refl; one_more = refl }
 
 pub digests : Digests
 unfolding pool_on_literals

@@ -10,6 +10,7 @@ use Rattle.pool_model.specs.declared.answers.WriteAnswer.TheVariants as written
 use Rattle.pool_model.specs.declared.commands.Mode.TheVariants.{Off, Verify}
 use Rattle.pool_model.specs.declared.notes.BadKind.TheVariants.{Form}
 use Rattle.pool_model.specs.Pool.{Pool, Pointer, Mark, plain, tracked, loose, empty_pool, IsWellFormed}
+use Rattle.pool_model.specs.Stats.{stats_of}
 use Rattle.pool_model.specs.Table.{empty_table, Matches}
 use Rattle.pool_model.specs.Plain.{Part, Told, write, read, free, lanes, set_mode, stat, to_write}
 use Rattle.pool_model.specs.Space.{need, writes_in, changes_in}
@@ -56,10 +57,11 @@ abbrev pub EdgeFile : Type 0
 EdgeFile = file_of (codes "group 1099511627775\n0 write 65535 00ff\n0 write 0 a9\nend\nstat\n")
     ≡ Ok (lanes 1099511627775 (task 0 65535 (write (0 ∷ 255 ∷ [])) ∷ task 0 0 (write (169 ∷ [])) ∷ []) ∷ stat ∷ [])
 
--- the longest file, how many lanes there are, the longest block and one longer, the most writes and one more
+-- the longest file, how many lanes and buckets there are, the longest block and one longer, the most writes and one more
 pub record Limits : Type 0 where
   pub longest_file : file_limit ≡ 2 ^ 20
   pub sixteen : length empty_pool.modes ≡ 16
+  pub powers : length (stats_of empty_pool).buckets ≡ 21
   pub block : lawful_block (Ok (replicate 4096 97)) ≡ Some (replicate 4096 97)
   pub longer : lawful_block (Ok (replicate 4097 97)) ≡ None
   pub writes : lawful_parts (Some 0) (Some (replicate 1000 (task 0 1 (write a)))) ≡ Some (lanes 0 (replicate 1000 (task 0 1 (write a))) ∷ stat ∷ [])
