@@ -1,8 +1,8 @@
 -- What the ring shows once a sector of a slot has been written.
-use Rattle.std.proofs.Common.{◌≡◌, ◌≢◌, ℕ, ◌<◌, ◌≤◌, true, false, Option, Some, length, ◌∙◌, ap, arith, mod-lt}
+use Rattle.std.proofs.Common.{◌≡◌, ℕ, ◌<◌, ◌≤◌, true, false, Some, length, ◌∙◌, ap, arith, mod-lt}
 use Rattle.std.specs.Prelude.{List, slice_set}
 use Rattle.std.proofs.lemmas.List.{length-set}
-use Rattle.disk_model.specs.Images.{Image, IsImage, sector_at}
+use Rattle.disk_model.specs.Images.{Image, IsImage}
 use Rattle.disk_model.proofs.Sectors.{sector_at-set, sector_at-set_other}
 use Rattle.uber_ring.specs.Seals.{FitsSeal, body_bytes, body_seal, is_open, open_gate, closed_gate}
 use Rattle.uber_ring.specs.Ring.{ring_sectors, slot_count, fewest_sectors, slot_of, gate_sector, body_sector, gate_is_open, behind}

@@ -1,5 +1,5 @@
 -- The ring: sixteen slots at the front of an image, each a gate and a body, and which seal counts.
-use Rattle.std.specs.Prelude.{◌≡◌, ◌≢◌, ◌⊎◌, ℕ, zero, suc, ◌+◌, ◌*◌, ◌%◌, ◌<◌, ◌≤◌, Bool, true, false, nat_lt, nat_le, length, Option, Some, None, MatchOption, IfSome, MatchBool, if◌then◌else◌}
+use Rattle.std.specs.Prelude.{◌≡◌, ◌≢◌, ◌⊎◌, ℕ, zero, suc, ◌+◌, ◌*◌, ◌%◌, Bool, false, nat_lt, nat_le, length, Option, Some, None, MatchBool, if◌then◌else◌}
 use Rattle.disk_model.specs.Images.{Image, Torn, Stays, Holds, MayTouch, sector_at}
 use Rattle.uber_ring.specs.Seals.{is_open, body_seal, closed_gate}
 use Rattle.uber_ring.specs.declared.seal.Seal.{Seal}
