@@ -1,1 +1,3 @@
 pub mod PointerLaws
+pub mod ChainLaws
+pub mod Chaining

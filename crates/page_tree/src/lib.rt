@@ -14,6 +14,8 @@
 //! The ring of seals and every writer and reader of pages stand on this crate.
 #![tactic(auto)]
 
+mod chain;
+mod chain_page;
 mod fault;
 pub mod front;
 mod pointer;

@@ -1,0 +1,70 @@
+ghost use Rattle.std.specs.Prelude.{◌≡◌, ◌≤◌, ◌<◌, ℕ, length, take, drop, All, Some, IfOk, OnOk, OnErr};
+ghost use Rattle.sha2.specs.Sha256.{sha256};
+ghost use Rattle.disk_model.specs.Images.{Image, Torn, Holds, MayTouch};
+ghost use Rattle.disk_model.specs.Crashes.{LeavesOnly};
+ghost use Rattle.disk_model.specs.Faults.{HasCause};
+ghost use Rattle.page_tree.specs.Chains.{page_before, chain_of, pages_for, Written, MayTouchAll, ChainLeaves};
+
+use crate::chain_page::{PAGE_RECORDS, chain_page_of};
+use crate::pointer::PagePtr;
+use disk_model::{Disk, Failed, crash_laws};
+use sha2::{Digest, Sha256};
+
+/// Writes a page in front of a chain, and answers the pointer to it.
+fn write_page<D: Disk>(
+    disk: &mut D,
+    next: Option<PagePtr>,
+    records: &[[u8; 72]],
+    place: u64,
+) -> Result<PagePtr, Failed>
+    requires room { length records.now ≤ 56 }
+    requires within { place < D.sectors_of disk.old }
+    ensures sectors { D.sectors_of disk.new ≡ D.sectors_of disk.old }
+    ensures pointer { IfOk result (λ pointer. pointer ≡ record { sector = place; digest = sha256 (page_before next records.now) }) }
+    ensures written { OnOk result (Holds (D.seen disk.old) (D.seen disk.new) place (page_before next records.now)) }
+    ensures touched { OnErr result (MayTouch (D.seen disk.old) (D.seen disk.new) place) }
+    ensures any_moment { LeavesOnly D.clock D.left_since disk.old disk.new
+        (λ c. (d : Image) × D.may_leave disk.old d × Torn place d c) }
+    ensures reads { D.read_faults disk.old ≤ D.read_faults disk.new }
+    ensures cause { HasCause (D.write_faults disk.old) (D.write_faults disk.new) result }
+{
+    crash_laws(disk);
+    let page = chain_page_of(&next.unwrap_or(PagePtr::NULL), records);
+    disk.write(place, &page)?;
+    Ok(PagePtr {
+        sector: place,
+        digest: Sha256::digest(&page),
+    })
+}
+
+/// Writes the chain of these records at these places, 56 records a page, from its last page to its first,
+/// with no barrier behind it. Answers the pointer to the first page, and `None` where there is no
+/// record. Takes no memory.
+pub fn write_chain<D: Disk>(
+    disk: &mut D,
+    records: &[[u8; 72]],
+    places: &[u64],
+) -> Result<Option<PagePtr>, Failed>
+    requires pages { length places.now ≡ pages_for (length records.now) }
+    requires within { All (λ place. place < D.sectors_of disk.old) places.now }
+    ensures sectors { D.sectors_of disk.new ≡ D.sectors_of disk.old }
+    ensures root { IfOk result (λ root. root ≡ (chain_of places.now records.now).root) }
+    ensures written { OnOk result (Written (D.seen disk.old) (D.seen disk.new) (chain_of places.now records.now).writes) }
+    ensures touched { MayTouchAll (D.seen disk.old) (D.seen disk.new) places.now }
+    ensures any_moment { LeavesOnly D.clock D.left_since disk.old disk.new
+        (ChainLeaves places.now (D.may_leave disk.old)) }
+    ensures reads { D.read_faults disk.old ≤ D.read_faults disk.new }
+    ensures cause { HasCause (D.write_faults disk.old) (D.write_faults disk.new) result }
+{
+    crash_laws(disk);
+    let mut next = None;
+    let mut left = places.len();
+    'pages: while left > 0 {
+        left -= 1;
+        let behind = records.split_at(PAGE_RECORDS * left).1;
+        let page = behind.split_at(PAGE_RECORDS.min(behind.len())).0;
+        next = Some(write_page(disk, next, page, places[left])?);
+        crash_laws(disk);
+    }
+    Ok(next)
+}
