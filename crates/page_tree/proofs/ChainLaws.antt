@@ -5,7 +5,7 @@ use Rattle.std.specs.List.{concat, AllByRecursion}
 use Rattle.std.specs.Str.{bytes_eq}
 use Rattle.std.proofs.lemmas.Bool.{and_from}
 use Rattle.std.proofs.lemmas.Bool.Decides.{nat_tests}
-use Rattle.std.proofs.lemmas.List.{length-append, take_at, drop_at}
+use Rattle.std.proofs.lemmas.List.{length-append, take_at, drop_at, drop-drop}
 use Rattle.std.proofs.lemmas.Slice.Eq.{bytes_eq-Decides}
 use Rattle.ddt_entry.specs.Bytes.{bytes_at, number_at, number_bytes, zeros}
 use Rattle.ddt_entry.proofs.Bytes.{length-number_bytes, length-zeros, bytes_at-behind, number_at-is}
@@ -52,8 +52,17 @@ module _ (page : ChainPage) (fits : FitsPage page) where
   unfolding number pointer behind
   length-chain_page_bytes =
       ap length grouped
-      ∙ omega (arith, length-append number (pointer ++ behind), length-append pointer behind, length-append (concat page.records) (zeros (4048 - record_len * length page.records)),
-      length-number_bytes 4 (length page.records), length-pointer_bytes page.next fits.next, length-concat page.records fits.records, length-zeros (4048 - record_len * length page.records), fits.room)
+      ∙ omega (
+        arith,
+        length-append number (pointer ++ behind),
+        length-append pointer behind,
+        length-append (concat page.records) (zeros (4048 - record_len * length page.records)),
+        length-number_bytes 4 (length page.records),
+        length-pointer_bytes page.next fits.next,
+        length-concat page.records fits.records,
+        length-zeros (4048 - record_len * length page.records),
+        fits.room,
+      )
 
   text_back : take 4 (chain_page_bytes page) ≡ chain_text
   text_back = ap (take 4) grouped ∙ take_at chain_text (number ++ (pointer ++ behind)) 4 refl
@@ -93,9 +102,9 @@ module _ (page : ChainPage) (fits : FitsPage page) where
       (ap (nat_le 1) count_back ∙ at_least 1 (length page.records) fits.some)
       (ap (λ n. nat_le n page_records) count_back ∙ at_least (length page.records) page_records fits.room)
       (⊎_elim
-          (λ (last : page.next ≡ null_pointer). first_of _ _ (ap is_null (next_back ∙ last) ∙ refl))
-          (λ (full : length page.records ≡ page_records). second_of _ _ (ap (λ n. n == page_records) (count_back ∙ full)))
-          fits.full)
+      (λ (last : page.next ≡ null_pointer). first_of _ _ (ap is_null (next_back ∙ last) ∙ refl))
+      (λ (full : length page.records ≡ page_records). second_of _ _ (ap (λ n. n == page_records) (count_back ∙ full)))
+      fits.full)
     where
       four : (a b c d : Bool) → a ≡ true → b ≡ true → c ≡ true → d ≡ true → (a && b && c && d) ≡ true
       four a b c d p q r s = and_from (a && b && c) d (and_from (a && b) c (and_from a b p q) r) s
@@ -110,3 +119,17 @@ module _ (page : ChainPage) (fits : FitsPage page) where
       second_of : (a b : Bool) → b ≡ true → (a || b) ≡ true
       second_of true b p = refl
       second_of false b p = p
+
+-- one more record of those that are left
+pub parts_in-more : (count i : ℕ) (page : List ℕ) → i < count → parts_in (count - i) record_len (drop (48 + 72 * i) page) ≡ bytes_at record_len (48 + 72 * i) page ∷ parts_in (count - (i + 1)) record_len (drop (48 + 72 * (i + 1)) page)
+unfolding bytes_at
+parts_in-more count i page within =
+    ap (λ n. parts_in n record_len (drop (48 + 72 * i) page)) one_less
+    ∙ ap (λ (behind : List ℕ). take record_len (drop (48 + 72 * i) page) ∷ parts_in (count - (i + 1)) record_len behind) (drop-drop record_len (48 + 72 * i) page ∙ ap (λ n. drop n page) (omega arith))
+  where
+    one_less : count - i ≡ suc (count - (i + 1))
+    one_less = omega (arith, within)
+
+-- a record that was pushed stands in front of those behind it
+pub pushed : (items new : List (List ℕ)) (value : List ℕ) (behind : List (List ℕ)) → new ≡ items ++ value ∷ [] → new ++ behind ≡ items ++ value ∷ behind
+pushed items new value behind is = ap (λ (all : List (List ℕ)). all ++ behind) is ∙ append_assoc items (value ∷ []) behind

@@ -1,3 +1,4 @@
 pub mod PointerLaws
 pub mod ChainLaws
 pub mod Chaining
+pub mod Walking

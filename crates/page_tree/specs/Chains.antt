@@ -1,5 +1,5 @@
 -- Chains of pages: how a flat image keeps a list of records.
-use Rattle.std.specs.Prelude.{◌≡◌, ℕ, zero, suc, ◌+◌, ◌-◌, ◌*◌, ◌/◌, ◌<◌, ◌≤◌, ◌⊎◌, Bool, ◌&&◌, ◌||◌, ◌==◌, nat_le, List, [], ◌∷◌, ◌++◌, length, take, drop, fold, replicate, codes, slice_set, false, Option, Some, None, ⊤}
+use Rattle.std.specs.Prelude.{◌≡◌, ℕ, zero, suc, ◌+◌, ◌-◌, ◌*◌, ◌/◌, ◌<◌, ◌≤◌, ◌⊎◌, Bool, not, ◌&&◌, ◌||◌, ◌==◌, nat_le, nat_lt, List, [], ◌∷◌, ◌++◌, length, take, drop, fold, replicate, codes, slice_set, false, Option, Some, None, ⊤, if◌then◌else◌}
 use Rattle.std.specs.List.{concat, list_any, AllByRecursion}
 use Rattle.std.specs.Str.{bytes_eq}
 use Rattle.sha2.specs.Sha256.{sha256}
@@ -122,3 +122,38 @@ MayTouchAll (Some image) new places = (touched : Image) × (new ≡ Some touched
 -- what writes of these sectors may leave
 abbrev pub ChainLeaves : (places : List ℕ) → (old : Image → Type 0) → Image → Type 0
 ChainLeaves places old c = (d : Image) × old d × SameBut places d c
+
+-- what a walk of a chain has come to: the sectors that were named so far, in their order, and the records that were read
+pub record Walked : Type 0 where
+  pub named : List ℕ
+  pub records : List (List ℕ)
+
+-- records in front of what is walked next
+abbrev pub behind_records : List (List ℕ) → Option Walked → Option Walked
+behind_records records None = None
+behind_records records (Some walked) = Some (record walked { records = records ++ walked.records })
+
+-- whether a page may lie in a sector: outside the ring, on the disk, and not named yet
+abbrev pub is_open_to : (sectors : ℕ) → (named : List ℕ) → (sector : ℕ) → Bool
+is_open_to sectors named sector = nat_le 32 sector && nat_lt sector sectors && not (list_any (λ other. other == sector) named)
+
+-- whether a sector holds the page of this pointer, and it has the form
+abbrev pub holds_page : Image → PagePtr → Bool
+holds_page image pointer = bytes_eq (sha256 (sector_at image pointer.sector)) pointer.digest && is_chain_page (sector_at image pointer.sector)
+
+-- the walk of a chain over so many pages at the most; nothing where the chain is damaged
+abbrev pub walk : (most : ℕ) → Image → (sectors : ℕ) → (named : List ℕ) → PagePtr → Option Walked
+walk zero image sectors named pointer = None
+walk (suc most) image sectors named pointer =
+    if is_null pointer then Some (record { named = named; records = [] })
+    else (if is_open_to sectors named pointer.sector && holds_page image pointer
+    then behind_records (chain_page_in (sector_at image pointer.sector)).records (walk most image sectors (named ++ pointer.sector ∷ []) (next_in (sector_at image pointer.sector)))
+    else None)
+
+-- the chain of a root on a disk of so many sectors; its pages are fewer than these
+abbrev pub chain_in : Image → (sectors : ℕ) → (named : List ℕ) → (root : Option PagePtr) → Option Walked
+chain_in image sectors named root = walk sectors image sectors named (pointer_or_null root)
+
+-- a walk came to its end with these sectors named, and its records behind those that there were
+abbrev pub HasWalked : Option Walked → (named : List ℕ) → (old new : List (List ℕ)) → Type 0
+HasWalked walked named old new = (records : List (List ℕ)) × (walked ≡ Some (record { named = named; records = records })) × (new ≡ old ++ records)

@@ -1,6 +1,6 @@
-ghost use Rattle.std.specs.Prelude.{◌≡◌, ◌≤◌, ◌<◌, ◌^◌, ℕ, length, take};
+ghost use Rattle.std.specs.Prelude.{◌≡◌, ◌≤◌, ◌<◌, ◌^◌, ℕ, length, take, true};
 ghost use Rattle.std.specs.Str.{bytes_eq};
-ghost use Rattle.page_tree.specs.Chains.{chain_text, is_null, chain_head, chain_page_bytes, count_in, next_in, is_chain_page};
+ghost use Rattle.page_tree.specs.Chains.{chain_text, is_null, chain_head, chain_page_bytes, count_in, next_in, is_chain_page, chain_page_in, ChainPage, FitsPage};
 
 use crate::front::{full_array, pad_to, put, put_u32};
 use crate::pointer::PagePtr;
@@ -82,3 +82,10 @@ pub(crate) fn has_form(page: &[u8; 4096]) -> bool
         && count <= PAGE_RECORDS as u32
         && (is_null_pointer(&next_of(page)) || count == PAGE_RECORDS as u32)
 }
+
+/// A page of a chain is read back from its bytes, which fill a sector.
+pub fn chain_page_is_read_back()
+    ensures len { (page : ChainPage) → FitsPage page → length (chain_page_bytes page) ≡ 4096 }
+    ensures form { (page : ChainPage) → FitsPage page → is_chain_page (chain_page_bytes page) ≡ true }
+    ensures back { (page : ChainPage) → FitsPage page → chain_page_in (chain_page_bytes page) ≡ page }
+{}

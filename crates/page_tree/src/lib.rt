@@ -11,11 +11,18 @@
 //! `PageReader` reads the page of a pointer and compares its digest; `PlainReader` does so by one read
 //! of the disk.
 //!
+//! A chain keeps a list of records of 72 bytes, 56 on a page; each page names the next one.
+//! `write_chain` writes its pages from the last to the first, and its clause on crashes says that
+//! no other sector is touched; `read_chain` walks it from its root.
+//!
 //! The ring of seals and every writer and reader of pages stand on this crate.
 #![tactic(auto)]
 
 mod chain;
 mod chain_page;
+#[cfg(test)]
+mod chain_tests;
+mod chain_walk;
 mod fault;
 pub mod front;
 mod pointer;
@@ -25,6 +32,9 @@ mod reader_tests;
 #[cfg(test)]
 mod tests;
 
+pub use chain::write_chain;
+pub use chain_page::{PAGE_RECORDS, chain_page_is_read_back};
+pub use chain_walk::{RecordList, SectorList, read_chain};
 pub use fault::{FindFault, PageFault};
 pub use pointer::{
     PagePtr, null_is_zeros, pointer_fits, pointers_fit, read_is_spelled, spelled_is_read,

@@ -26,8 +26,7 @@ pages-preserved g c =
     let behind = c.split_at.result.1.now in
     let cut : c.split_at-in-pages.result.0.now ≡ take page_records (drop (page_records * (c.pages.left - 1)) c.args.records.now) =
     c.split_at-in-pages.ensures.front ∙ ap (λ n. take n behind) c.min.ensures ∙ take_min page_records behind ∙ ap (take page_records) c.split_at.ensures.back in
-    let all = and_then g.D.Disk.clock g.D.Disk.left_since c.args.disk.now c.pages.disk c.write_page.new.disk P c.pages.invariant.4 page in
-    (
+    let all = and_then g.D.Disk.clock g.D.Disk.left_since c.args.disk.now c.pages.disk c.write_page.new.disk P c.pages.invariant.4 page in (
       omega (arith, c.pages.invariant.0),
       c.write_page.ensures.sectors ∙ c.pages.invariant.1,
       chain_step c.args.places.now c.args.records.now c.pages.left (c.pages.left - 1) one_less inside _ _ _ c.pages.next _ c.in_ok-write_page.field-0 c.pages.invariant.2 cut c.in_ok-write_page.ensures.pointer c.in_ok-write_page.ensures.written,

@@ -1,0 +1,10 @@
+use Rattle.std.proofs.Common.{◌≡◌, ◌≤◌, ◌-◌}
+use Rattle.std.specs.Prelude.{IfSome}
+use Rattle.page_tree.specs.Chains.{chain_in}
+use Rattle.page_tree.proofs.Walking.{Continues}
+use Rattle.page_tree.proofs.chain_walk.read_chain.Given as goal
+
+abbrev pub invariant-pages : goal.invariant-pages
+invariant-pages g l =
+    IfSome (g.D.Disk.seen l.disk) (λ image. Continues image (g.D.Disk.sectors_of l.disk) (chain_in image (g.D.Disk.sectors_of l.disk) l.fn.named.items l.root) (l.sectors - l.counter) l.named.items l.fn.out.items l.out.items l.pointer)
+    × (l.sectors ≡ g.D.Disk.sectors_of l.disk) × (g.D.Disk.meter_faults l.fn.meter ≤ g.D.Disk.meter_faults l.meter)
