@@ -1,8 +1,22 @@
-//! What an image stands for: its pool of pointers and the state of its table.
+//! What an image stands for: a pool of pointers, with the state of its table.
+//!
+//! `specs/Flat.antt` says it for version 0 of the image, in which five chains of pages keep the slots,
+//! the two classes of the stored table and the two logs, as one record, `StandsFor`: the seal that
+//! counts has the form, its chains are read in order, their records spell these slots, entries and
+//! changes, these keep the rules together, and the pool and the table are made of them so. Where a
+//! seal counts and the record can't be met, the image is damaged.
+//!
+//! The laws say that an image stands for one pool at the most, and that this hangs on nothing but the
+//! seal, the pages that it names and the blocks of its pointers. So a sync that writes elsewhere leaves
+//! it, and needs no word about bytes. `seal_form` judges a seal, `slot_record` is the record of a slot.
 #![tactic(auto)]
 
+mod laws;
 mod seal_form;
 mod setting;
+mod slot_record;
 
-pub use seal_form::{LAST_GROUP, MOST_SECTORS, is_formed};
+pub use laws::{a_new_image_is_empty, an_image_hangs_on_what_it_names, one_pool_for_an_image};
+pub use seal_form::{LAST_GROUP, MOST_SECTORS, is_formed, new_seal};
 pub use setting::{byte_of, mode_of, modes_read_back};
+pub use slot_record::SlotRecord;

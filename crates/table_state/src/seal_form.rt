@@ -1,6 +1,7 @@
 ghost use Rattle.std.specs.Prelude.{◌≡◌};
-ghost use Rattle.table_state.specs.SealForms.{has_group, has_size, has_flags, has_modes, has_checkpoint, is_formed};
+ghost use Rattle.table_state.specs.SealForms.{has_group, has_size, has_flags, has_modes, has_checkpoint, is_formed, new_seal};
 
+use page_tree::PagePtr;
 use uber_ring::{FEWEST_SECTORS, Seal};
 
 /// How many sectors a pool has at the most.
@@ -55,4 +56,29 @@ pub fn is_formed(seal: &Seal, tag: u8, sectors: u64) -> bool
         && has_flags(seal)
         && has_modes(seal)
         && has_checkpoint(seal)
+}
+
+/// The seal of a new pool of so many sectors, which is empty: group 1, lanes on, no quota, null pointers.
+pub fn new_seal(tag: u8, sectors: u64) -> Seal
+    ensures { result ≡ new_seal tag sectors }
+{
+    Seal {
+        version: 0,
+        tag: tag as u32,
+        group: 1,
+        sectors,
+        quota: 0,
+        quota_flag: 0,
+        modes: [1; 16],
+        age: 0,
+        active_changes: 0,
+        flushing_changes: 0,
+        checkpoint_flag: 0,
+        checkpoint_len: 0,
+        checkpoint_digest: [0; 32],
+        pointers: [PagePtr::NULL; 6],
+        homes: 0,
+        counts: 0,
+        pages: 0,
+    }
 }

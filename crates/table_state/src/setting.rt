@@ -29,5 +29,4 @@ pub fn byte_of(mode: Mode) -> u8
 /// A mode is read back from its byte. It does nothing.
 pub fn modes_read_back()
     ensures { (mode : Mode) → mode_in (mode_byte mode) ≡ mode }
-{
-}
+{}

@@ -1,0 +1,92 @@
+-- An image whose newest seal is that of a new pool stands for the empty pool.
+use Rattle.std.proofs.Common.{◌≡◌, ℕ, zero, suc, ◌≤◌, ◌-◌, true, List, [], Some, length, refl, sym, ap, subst, ◌∙◌, arith}
+use Rattle.std.specs.Prelude.{nat_le}
+use Rattle.std.proofs.lemmas.Bool.{and_from}
+use Rattle.std.proofs.lemmas.Bool.Decides.{nat_tests}
+use Rattle.std.proofs.Common.{eq-eqb}
+use Rattle.disk_model.specs.Images.{Image}
+use Rattle.page_tree.specs.Pointers.{null_pointer}
+use Rattle.page_tree.specs.Chains.{chain_in, walk}
+use Rattle.uber_ring.specs.Ring.{newest}
+use Rattle.pool_model.specs.Pool.{empty_pool}
+use Rattle.pool_model.specs.Table.{empty_table}
+use Rattle.table_state.specs.SealForms.{new_seal, is_formed, fewest_sectors, most_sectors, has_size}
+use Rattle.table_state.specs.Flat.{Flat, StandsFor, Reads, flat_version}
+
+nothing : Flat
+nothing = record { slots = []; unique = []; duplicate = []; active = []; flushing = []; named = [] }
+
+-- a null root reads nothing, on a disk that has a sector
+reads_nothing : (image : Image) (count : ℕ) → length image ≡ suc count → Reads image [] (Some null_pointer) [] []
+reads_nothing image count same = ap (λ n. walk n image (length image) [] null_pointer) same ∙ refl
+
+new_formed : (tag sectors size : ℕ) → fewest_sectors ≤ sectors → sectors ≤ most_sectors → sectors ≤ size → is_formed tag size (new_seal tag sectors) ≡ true
+new_formed tag sectors size enough few there =
+    and_from _ _ (and_from _ _ (and_from _ _ (and_from _ _ (and_from _ _ (eq-eqb tag tag refl) refl) sizes) refl) refl) refl
+  where
+    at_least : (x y : ℕ) → x ≤ y → nat_le x y ≡ true
+    at_least x y le = grind (arith, nat_tests, le)
+
+    sizes : has_size size (new_seal tag sectors) ≡ true
+    sizes = and_from _ _ (and_from _ _ (at_least fewest_sectors sectors enough) (at_least sectors most_sectors few)) (at_least sectors size there)
+
+pub stands_for_empty : (tag sectors : ℕ) (image : Image) → fewest_sectors ≤ sectors → sectors ≤ most_sectors → sectors ≤ length image → newest flat_version image ≡ Some (new_seal tag sectors) → StandsFor tag image empty_pool empty_table
+unfolding nothing
+stands_for_empty tag sectors image enough few there seals =
+    record {
+      seal = new_seal tag sectors;
+      flat = nothing;
+      counts = seals;
+      formed = new_formed tag sectors (length image) enough few there;
+      read = record {
+        after_slots = [];
+        after_unique = [];
+        after_duplicate = [];
+        after_active = [];
+        slots = [];
+        unique = [];
+        duplicate = [];
+        active = [];
+        flushing = [];
+        first = none;
+        second = none;
+        third = none;
+        fourth = none;
+        fifth = none;
+        slots_spelled = refl;
+        unique_spelled = refl;
+        duplicate_spelled = refl;
+        active_spelled = refl;
+        flushing_spelled = refl;
+      };
+      whole = record {
+        pages_within = tt;
+        slots_rising = tt;
+        unique_within = tt;
+        duplicate_within = tt;
+        active_within = tt;
+        flushing_within = tt;
+        unique_rising = tt;
+        duplicate_rising = tt;
+        counted_once = tt;
+        counted_more = tt;
+        one_class = tt;
+        active_changes = refl;
+        flushing_changes = refl;
+      };
+      table_is = refl;
+      pool_is = refl;
+      well_formed = record { together = tt; within = tt };
+      matches = record { homes = λ key. refl; waiting = tt; apart = tt };
+      homes = refl;
+      references = refl;
+      pages = refl;
+      pointers_clear = tt;
+      waiting_clear = tt;
+    }
+  where
+    some : length image ≡ suc (length image - 1)
+    some = omega (arith, enough, there)
+
+    none : Reads image [] (Some null_pointer) [] []
+    none = reads_nothing image (length image - 1) some
