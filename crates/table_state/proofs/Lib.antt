@@ -1,3 +1,4 @@
 pub mod Created
 pub mod FlatLaws
 pub mod Kept
+pub mod SlotLaws

@@ -15,8 +15,13 @@ mod laws;
 mod seal_form;
 mod setting;
 mod slot_record;
+#[cfg(test)]
+mod slot_record_tests;
 
 pub use laws::{a_new_image_is_empty, an_image_hangs_on_what_it_names, one_pool_for_an_image};
 pub use seal_form::{LAST_GROUP, MOST_SECTORS, is_formed, new_seal};
 pub use setting::{byte_of, mode_of, modes_read_back};
-pub use slot_record::SlotRecord;
+pub use slot_record::{
+    SLOT_RECORD_BYTES, SlotRecord, read_slot, slot_fits, slots_by_the_table, slots_read_back,
+    write_slot,
+};

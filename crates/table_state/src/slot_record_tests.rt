@@ -1,0 +1,104 @@
+use crate::{SLOT_RECORD_BYTES, SlotRecord, read_slot, write_slot};
+use ddt_entry::{Key, Pointer, SlotKind};
+use std::process::Abort;
+
+/// The bytes 1 to 32.
+const DIGEST: [u8; 32] = [
+    1, 2, 3, 4, 5, 6, 7, 8, 9, 10, 11, 12, 13, 14, 15, 16, 17, 18, 19, 20, 21, 22, 23, 24, 25, 26,
+    27, 28, 29, 30, 31, 32,
+];
+
+/// Lane 3 and slot 258, flagged, length 4,096, digest, place 0x0807060504030201, birth 2^64 - 1, and zeros.
+const FLAGGED_RECORD: [u8; SLOT_RECORD_BYTES] = [
+    3, 0, 0, 0, 2, 1, 0, 0, 2, 0, 0, 0, 0, 16, 0, 0, 1, 2, 3, 4, 5, 6, 7, 8, 9, 10, 11, 12, 13, 14,
+    15, 16, 17, 18, 19, 20, 21, 22, 23, 24, 25, 26, 27, 28, 29, 30, 31, 32, 1, 2, 3, 4, 5, 6, 7, 8,
+    255, 255, 255, 255, 255, 255, 255, 255, 0, 0, 0, 0, 0, 0, 0, 0,
+];
+
+/// Lane 0 and slot 0, plain, length 1, digest, place 32, birth 1, and zeros.
+const PLAIN_RECORD: [u8; SLOT_RECORD_BYTES] = [
+    0, 0, 0, 0, 0, 0, 0, 0, 1, 0, 0, 0, 1, 0, 0, 0, 1, 2, 3, 4, 5, 6, 7, 8, 9, 10, 11, 12, 13, 14,
+    15, 16, 17, 18, 19, 20, 21, 22, 23, 24, 25, 26, 27, 28, 29, 30, 31, 32, 32, 0, 0, 0, 0, 0, 0,
+    0, 1, 0, 0, 0, 0, 0, 0, 0, 0, 0, 0, 0, 0, 0, 0, 0,
+];
+
+/// The slot of the flagged record.
+const FLAGGED: SlotRecord = SlotRecord {
+    lane: 3,
+    slot: 258,
+    pointer: Pointer {
+        kind: SlotKind::Flagged,
+        key: Key {
+            digest: DIGEST,
+            len: 4_096,
+        },
+        place: 0x0807_0605_0403_0201,
+        birth: u64::MAX,
+    },
+};
+
+/// The slot of the plain record.
+const PLAIN: SlotRecord = SlotRecord {
+    lane: 0,
+    slot: 0,
+    pointer: Pointer {
+        kind: SlotKind::Plain,
+        key: Key {
+            digest: DIGEST,
+            len: 1,
+        },
+        place: 32,
+        birth: 1,
+    },
+};
+
+#[test]
+fn slots_are_these_72_bytes(rt: HostRuntime) {
+    for (held, bytes) in [(FLAGGED, FLAGGED_RECORD), (PLAIN, PLAIN_RECORD)] {
+        assert_eq!(rt; write_slot(&held), bytes);
+        assert_eq!(rt; read_slot(&bytes, u64::MAX, u64::MAX), Some(held));
+    }
+}
+
+/// The plain record with another number in the 4 bytes at an offset.
+fn plain_with(rt: &impl Abort, offset: usize, number: u32) -> [u8; SLOT_RECORD_BYTES] {
+    assert!(rt; offset <= 68);
+    let mut bytes = PLAIN_RECORD;
+    bytes[offset..offset + 4].copy_from_slice(&number.to_le_bytes());
+    bytes
+}
+
+#[test]
+fn a_field_out_of_its_range_is_no_slot(rt: HostRuntime) {
+    for (case, offset, number, is_read) in [
+        ("lane 15", 0usize, 15u32, true),
+        ("lane 16", 0, 16, false),
+        ("slot 65,535", 4, 65_535, true),
+        ("slot 65,536", 4, 65_536, false),
+        ("kind 0", 8, 0, false),
+        ("kind 2", 8, 2, true),
+        ("kind 3", 8, 3, false),
+        ("length 0", 12, 0, false),
+        ("length 4,096", 12, 4_096, true),
+        ("length 4,097", 12, 4_097, false),
+        ("place 31", 48, 31, false),
+        ("place 63 of 64 sectors", 48, 63, true),
+        ("place 64 of 64 sectors", 48, 64, false),
+        ("place 2^32 and 32", 52, 1, false),
+        ("birth 0", 56, 0, false),
+        ("birth 5 under group 5", 56, 5, true),
+        ("birth 6 under group 5", 56, 6, false),
+        ("birth 2^32 and 1", 60, 1, false),
+    ] {
+        let bytes = plain_with(&rt, offset, number);
+        assert_eq!(rt; read_slot(&bytes, 64, 5).is_some(), is_read, "at {case}");
+    }
+}
+
+#[test]
+fn the_last_8_bytes_are_ignored(rt: HostRuntime) {
+    for (offset, number) in [(64usize, 1u32), (64, u32::MAX), (68, 1), (68, u32::MAX)] {
+        let bytes = plain_with(&rt, offset, number);
+        assert_eq!(rt; read_slot(&bytes, 33, 1), Some(PLAIN), "at {offset}");
+    }
+}
