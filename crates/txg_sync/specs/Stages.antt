@@ -1,0 +1,26 @@
+-- What the stages of a sync leave, of told contents and after a crash.
+use Rattle.std.specs.Prelude.{◌≡◌, ◌⊎◌, ⊤, ℕ, Bool, false, Option, Some, None}
+use Rattle.disk_model.specs.Images.{Image, Torn}
+use Rattle.uber_ring.specs.Ring.{gate_sector, gate_is_open, seal_at, newest, SameElsewhere}
+use Rattle.pool_model.specs.Pool.{empty_pool}
+use Rattle.pool_model.specs.Table.{empty_table}
+use Rattle.table_state.specs.Flat.{StandsFor, flat_version}
+
+-- while a slot is taken nothing but its gate may change, and it shows the seal that it showed before, or none
+pub record TakingLeaves (slot : ℕ) (image c : Image) : Type 0 where
+  pub torn : Torn (gate_sector slot) image c
+  pub elsewhere : SameElsewhere slot image c
+  pub own : (version : ℕ) → (seal_at version c slot ≡ None) ⊎ (seal_at version c slot ≡ seal_at version image slot)
+
+-- a slot that was taken is closed
+pub record IsTaken (slot : ℕ) (image taken : Image) : Type 0 where
+  pub taking : TakingLeaves slot image taken
+  pub closed : gate_is_open taken slot ≡ false
+
+abbrev pub Takes : (slot : ℕ) → (old new : Option Image) → Type 0
+Takes slot None new = ⊤
+Takes slot (Some image) new = (taken : Image) × (new ≡ Some taken) × IsTaken slot image taken
+
+-- no seal counts yet, or the image stands for the empty pool
+abbrev pub NoneOrEmpty : (tag : ℕ) → Image → Type 0
+NoneOrEmpty tag c = (newest flat_version c ≡ None) ⊎ StandsFor tag c empty_pool empty_table

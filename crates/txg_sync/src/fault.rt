@@ -1,0 +1,8 @@
+/// Why a seal wasn't written.
+#[derive(Clone, Copy, Debug, PartialEq, Eq)]
+pub enum SealFault {
+    /// A read of the disk failed.
+    ReadFault,
+    /// A meter, a write or a barrier failed.
+    WriteFault,
+}

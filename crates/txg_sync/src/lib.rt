@@ -1,0 +1,16 @@
+//! How a pool comes to be on a disk, and how a group is sealed: in stages, so that a crash at any moment
+//! leaves the pool before or the new one.
+//!
+//! A seal goes into the slot of the ring that its group has. First the slot is taken: its gate is
+//! closed, if it reads open, and a barrier made. Then the body is written, with the pages that it
+//! names, and a barrier made. Last the gate is opened, and a barrier made. `specs/Stages.antt` says what
+//! each stage may leave. `seal_new_pool` seals the empty pool of group 1 so.
+//!
+//! Nothing here takes memory.
+#![tactic(auto)]
+
+mod fault;
+mod take;
+
+pub use fault::SealFault;
+pub use take::take_slot;
