@@ -1,7 +1,7 @@
 -- What the stages of a sync leave, of told contents and after a crash.
-use Rattle.std.specs.Prelude.{◌≡◌, ◌⊎◌, ⊤, ℕ, Bool, false, Option, Some, None}
-use Rattle.disk_model.specs.Images.{Image, Torn}
-use Rattle.uber_ring.specs.Ring.{gate_sector, gate_is_open, seal_at, newest, SameElsewhere}
+use Rattle.std.specs.Prelude.{◌≡◌, ◌≢◌, ◌⊎◌, ⊤, ℕ, Bool, false, length, Option, Some, None}
+use Rattle.disk_model.specs.Images.{Image, Torn, sector_at}
+use Rattle.uber_ring.specs.Ring.{gate_sector, body_sector, gate_is_open, seal_at, newest, SameElsewhere}
 use Rattle.pool_model.specs.Pool.{empty_pool}
 use Rattle.pool_model.specs.Table.{empty_table}
 use Rattle.table_state.specs.Flat.{StandsFor, flat_version}
@@ -24,3 +24,27 @@ Takes slot (Some image) new = (taken : Image) × (new ≡ Some taken) × IsTaken
 -- no seal counts yet, or the image stands for the empty pool
 abbrev pub NoneOrEmpty : (tag : ℕ) → Image → Type 0
 NoneOrEmpty tag c = (newest flat_version c ≡ None) ⊎ StandsFor tag c empty_pool empty_table
+
+-- every sector but the two of a slot is as before
+pub record SameOutside (slot : ℕ) (image c : Image) : Type 0 where
+  pub count : length c ≡ length image
+  pub others : (at : ℕ) → at ≢ gate_sector slot → at ≢ body_sector slot → sector_at c at ≡ sector_at image at
+
+-- while the first seal is written no seal counts yet, or the image stands for the empty pool, and only its slot changes
+pub record Beginning (tag : ℕ) (image c : Image) : Type 0 where
+  pub shows : NoneOrEmpty tag c
+  pub outside : SameOutside 1 image c
+
+-- the first seal counts
+pub record Begun (tag : ℕ) (image c : Image) : Type 0 where
+  pub empty : StandsFor tag c empty_pool empty_table
+  pub outside : SameOutside 1 image c
+
+abbrev pub Begins : (tag : ℕ) → (old new : Option Image) → Type 0
+Begins tag None new = ⊤
+Begins tag (Some image) new = (c : Image) × (new ≡ Some c) × Begun tag image c
+
+-- no seal counts in told contents
+abbrev pub HasNoSeal : Option Image → Type 0
+HasNoSeal None = ⊤
+HasNoSeal (Some image) = newest flat_version image ≡ None

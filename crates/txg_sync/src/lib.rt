@@ -9,8 +9,12 @@
 //! Nothing here takes memory.
 #![tactic(auto)]
 
+mod begin;
 mod fault;
+mod fill;
 mod take;
 
+pub use begin::seal_new_pool;
 pub use fault::SealFault;
+pub use fill::fill_slot;
 pub use take::take_slot;
