@@ -13,6 +13,8 @@ mod begin;
 mod fault;
 mod fill;
 mod take;
+#[cfg(test)]
+mod tests;
 
 pub use begin::seal_new_pool;
 pub use fault::SealFault;
