@@ -79,11 +79,12 @@ fn a_chain_that_is_spoilt_is_damaged(rt: HostRuntime) -> Result<(), Fail> {
         read(alloc, &mut disk, &root, &mut named).err(),
         Some(PageFault::Damaged(33))
     );
+    let Some(first) = root else {
+        return Err("the chain has a root".into());
+    };
+    let digest = first.digest;
     for sector in [31, 64, 50] {
-        let elsewhere = root.map(|pointer| PagePtr {
-            sector,
-            digest: pointer.digest,
-        });
+        let elsewhere = Some(PagePtr { sector, digest });
         let mut none = SectorList::new(alloc);
         let answer = read(alloc, &mut disk, &elsewhere, &mut none).err();
         assert_eq!(rt; answer, Some(PageFault::Damaged(sector)), "at {sector}");
