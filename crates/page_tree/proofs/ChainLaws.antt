@@ -1,15 +1,14 @@
 -- A page of a chain is read back from its bytes.
-use Rattle.std.proofs.Common.{◌≡◌, ℕ, zero, suc, ◌+◌, ◌-◌, ◌*◌, ◌≤◌, ◌<◌, ◌⊎◌, Bool, true, false, ◌&&◌, ◌||◌, ◌==◌, List, [], ◌∷◌, ◌++◌, length, take, drop, refl, sym, ap, subst, ◌∙◌, inl, inr, ⊎_elim, append_assoc, arith}
+use Rattle.std.proofs.Common.{◌≡◌, ℕ, suc, ◌+◌, ◌-◌, ◌*◌, ◌≤◌, ◌<◌, Bool, true, false, ◌&&◌, ◌||◌, ◌==◌, List, [], ◌∷◌, ◌++◌, length, take, drop, refl, sym, ap, ◌∙◌, ⊎_elim, append_assoc, arith}
 use Rattle.std.specs.Prelude.{nat_le}
 use Rattle.std.specs.List.{concat, AllByRecursion}
-use Rattle.std.specs.Str.{bytes_eq}
 use Rattle.std.proofs.lemmas.Bool.{and_from}
 use Rattle.std.proofs.lemmas.Bool.Decides.{nat_tests}
 use Rattle.std.proofs.lemmas.List.{length-append, take_at, drop_at, drop-drop}
 use Rattle.std.proofs.lemmas.Slice.Eq.{bytes_eq-Decides}
-use Rattle.ddt_entry.specs.Bytes.{bytes_at, number_at, number_bytes, zeros}
+use Rattle.ddt_entry.specs.Bytes.{bytes_at, number_bytes, zeros}
 use Rattle.ddt_entry.proofs.Bytes.{length-number_bytes, length-zeros, bytes_at-behind, number_at-is}
-use Rattle.page_tree.specs.Pointers.{FitsPointer, null_pointer, pointer_bytes, pointer_in}
+use Rattle.page_tree.specs.Pointers.{null_pointer, pointer_bytes, pointer_in}
 use Rattle.page_tree.specs.Chains.{ChainPage, FitsPage, chain_text, record_len, page_records, is_null, chain_head, chain_page_bytes, parts_in, count_in, next_in, is_chain_page, chain_page_in}
 use Rattle.page_tree.specs.declared.pointer.PagePtr.{PagePtr}
 use Rattle.page_tree.proofs.PointerLaws.{length-pointer_bytes, pointer_in-pointer_bytes}

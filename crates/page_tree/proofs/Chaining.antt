@@ -1,12 +1,12 @@
 -- How the writes of a chain go on from page to page.
-use Rattle.std.proofs.Common.{◌≡◌, ◌≢◌, ℕ, ◌+◌, ◌*◌, ◌/◌, ◌<◌, ◌≤◌, Bool, true, false, ◌==◌, List, [], ◌∷◌, ◌++◌, Option, Some, None, length, get_or, take, drop, refl, sym, ap, subst, ◌∙◌, arith, eq-eqb}
+use Rattle.std.proofs.Common.{◌≡◌, ◌≢◌, ℕ, ◌+◌, ◌*◌, ◌<◌, true, false, ◌==◌, List, [], ◌∷◌, ◌++◌, Option, Some, None, length, get_or, take, drop, refl, sym, ap, subst, ◌∙◌, arith, eq-eqb}
 use Rattle.std.specs.Prelude.{fold, slice_set}
 use Rattle.std.specs.List.{list_any}
 use Rattle.std.proofs.lemmas.List.{drop_more, drop-drop, length-set}
 use Rattle.sha2.specs.Sha256.{sha256}
 use Rattle.std.proofs.lemmas.List.Folds.{list_any_at}
 use Rattle.std.proofs.lemmas.List.Sums.{fold-append}
-use Rattle.disk_model.specs.Images.{Image, Torn, Holds, MayTouch, sector_at}
+use Rattle.disk_model.specs.Images.{Image, Torn, Holds, MayTouch}
 use Rattle.disk_model.proofs.Sectors.{sector_at-set_other}
 use Rattle.page_tree.specs.Chains.{PageWrite, Chain, page_records, pages_for, write_page, page_before, chained, chain_of, Written, SameBut, MayTouchAll, ChainLeaves}
 use Rattle.page_tree.specs.declared.pointer.PagePtr.{PagePtr}

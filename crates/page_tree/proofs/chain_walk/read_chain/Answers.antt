@@ -1,5 +1,5 @@
 -- Each page that belongs there is behind what was read so far, and any other is damage.
-use Rattle.std.proofs.Common.{◌≡◌, ◌∙◌, ◌+◌, ◌-◌, ◌++◌, [], ◌∷◌, ℕ, List, suc, ap, subst, sym, arith}
+use Rattle.std.proofs.Common.{◌≡◌, ◌∙◌, ◌+◌, ◌-◌, ℕ, List, suc, ap, subst, sym, arith}
 use Rattle.std.specs.Prelude.{IfSome}
 use Rattle.disk_model.specs.Images.{Image}
 use Rattle.page_tree.specs.Chains.{chain_in, next_in, is_open_to, pointer_or_null}

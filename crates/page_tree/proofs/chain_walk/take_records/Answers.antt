@@ -1,4 +1,4 @@
-use Rattle.std.proofs.Common.{◌≡◌, ◌+◌, ◌-◌, ◌*◌, ◌∷◌, ◌++◌, List, ℕ, drop, ap, sym, ◌∙◌, arith}
+use Rattle.std.proofs.Common.{◌+◌, ◌-◌, ◌*◌, ◌∷◌, ◌++◌, List, ℕ, drop, ap, sym, ◌∙◌, arith}
 use Rattle.page_tree.specs.Chains.{record_len, parts_in}
 use Rattle.page_tree.proofs.ChainLaws.{parts_in-more, pushed}
 use Rattle.page_tree.proofs.chain_walk.take_records.Goals as goal
