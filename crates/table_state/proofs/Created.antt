@@ -1,12 +1,12 @@
 -- An image whose newest seal is that of a new pool stands for the empty pool.
-use Rattle.std.proofs.Common.{◌≡◌, ℕ, zero, suc, ◌≤◌, ◌-◌, true, List, [], Some, length, refl, sym, ap, subst, ◌∙◌, arith}
+use Rattle.std.proofs.Common.{◌≡◌, ℕ, suc, ◌≤◌, ◌-◌, true, [], Some, length, refl, ap, ◌∙◌, arith}
 use Rattle.std.specs.Prelude.{nat_le}
 use Rattle.std.proofs.lemmas.Bool.{and_from}
 use Rattle.std.proofs.lemmas.Bool.Decides.{nat_tests}
 use Rattle.std.proofs.Common.{eq-eqb}
 use Rattle.disk_model.specs.Images.{Image}
 use Rattle.page_tree.specs.Pointers.{null_pointer}
-use Rattle.page_tree.specs.Chains.{chain_in, walk}
+use Rattle.page_tree.specs.Chains.{walk}
 use Rattle.uber_ring.specs.Ring.{newest}
 use Rattle.pool_model.specs.Pool.{empty_pool}
 use Rattle.pool_model.specs.Table.{empty_table}

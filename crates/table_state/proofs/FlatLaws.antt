@@ -1,5 +1,5 @@
 -- An image stands for one pool with one table, or for none.
-use Rattle.std.proofs.Common.{◌≡◌, ℕ, List, [], ◌∷◌, Option, Some, None, Result, Ok, map, length, get_or, drop, refl, sym, ap, subst, ◌∙◌}
+use Rattle.std.proofs.Common.{◌≡◌, ℕ, List, [], ◌∷◌, Option, Some, Result, Ok, map, length, get_or, drop, refl, sym, ap, subst, ◌∙◌}
 use Rattle.std.specs.Prelude.{unwrap_or}
 use Rattle.std.specs.Result.{result_unwrap_or}
 use Rattle.table_state.specs.SealForms.{slots_root, unique_root, duplicate_root, active_root, flushing_root}

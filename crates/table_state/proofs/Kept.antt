@@ -1,19 +1,18 @@
 -- What an image stands for hangs on nothing but the seal that counts, the pages that it names and the blocks of its pointers.
-use Rattle.std.proofs.Common.{◌≡◌, ℕ, zero, suc, Bool, true, false, not, ◌&&◌, ◌||◌, ◌==◌, List, [], ◌∷◌, ◌++◌, Option, Some, None, map, length, refl, sym, ap, subst, ⊎_elim, ◌∙◌, eq-eqb}
+use Rattle.std.proofs.Common.{◌≡◌, ℕ, zero, suc, Bool, true, false, ◌&&◌, ◌||◌, ◌==◌, List, [], ◌∷◌, ◌++◌, Option, Some, None, map, length, refl, sym, ap, subst, ⊎_elim, ◌∙◌, eq-eqb}
 use Rattle.std.specs.Prelude.{take, unwrap_or, if◌then◌else◌}
 use Rattle.std.specs.List.{AllByRecursion, list_any}
 use Rattle.std.specs.Str.{bytes_eq}
-use Rattle.std.proofs.lemmas.Bool.{and_parts}
 use Rattle.std.proofs.lemmas.Bool.Decides.{eqb_tells}
 use Rattle.std.proofs.lemmas.List.Folds.{list_any-append}
 use Rattle.sha2.specs.Sha256.{sha256}
 use Rattle.disk_model.specs.Images.{Image, sector_at}
-use Rattle.page_tree.specs.Chains.{Walked, is_null, is_open_to, holds_page, is_chain_page, next_in, chain_page_in, behind_records, walk, chain_in, pointer_or_null}
+use Rattle.page_tree.specs.Chains.{Walked, is_null, is_open_to, holds_page, is_chain_page, next_in, chain_page_in, behind_records, walk, pointer_or_null}
 use Rattle.page_tree.specs.declared.pointer.PagePtr.{PagePtr}
 use Rattle.uber_ring.specs.Ring.{newest}
 use Rattle.pool_model.specs.Pool.{Pool, Pointer}
 use Rattle.pool_model.specs.Table.{TableState}
-use Rattle.table_state.specs.Flat.{Flat, IsRead, StandsFor, Reads, SameIn, flat_version, table_in, pool_in, pointer_of}
+use Rattle.table_state.specs.Flat.{Flat, IsRead, StandsFor, Reads, SameIn, flat_version, table_in, pointer_of}
 use Rattle.uber_ring.specs.declared.seal.Seal.{Seal}
 use Rattle.table_state.specs.SealForms.{is_formed, modes_in, quota_in, slots_root, unique_root, duplicate_root, active_root, flushing_root}
 use Rattle.table_state.specs.declared.slot_record.SlotRecord.{SlotRecord}

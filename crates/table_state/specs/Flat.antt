@@ -1,9 +1,9 @@
 -- What a flat image stands for: a pool of pointers with the state of its table. This is version 0 of the image, in which five
 -- chains keep the slots, the two classes of the stored table, and the two logs.
-use Rattle.std.specs.Prelude.{◌≡◌, ◌≢◌, ℕ, zero, suc, ◌+◌, ◌<◌, ◌≤◌, ◌^◌, ⊤, Bool, true, false, not, ◌&&◌, ◌||◌, ◌==◌, nat_le, nat_lt, List, [], ◌∷◌, ◌++◌, length, take, map, fold, filter, sum_by, Option, Some, None, Ok, if◌then◌else◌}
-use Rattle.std.specs.List.{AllByRecursion, list_any, list_all}
+use Rattle.std.specs.Prelude.{◌≡◌, ℕ, ◌<◌, ◌≤◌, ◌^◌, ⊤, Bool, true, false, ◌&&◌, ◌||◌, ◌==◌, nat_lt, List, [], length, take, map, fold, filter, sum_by, Option, Some, None, Ok, if◌then◌else◌}
+use Rattle.std.specs.List.{AllByRecursion, list_any}
 use Rattle.std.specs.Ordering.{is_lt}
-use Rattle.ddt_entry.specs.Keys.{key_cmp, key_eq}
+use Rattle.ddt_entry.specs.Keys.{key_cmp}
 use Rattle.ddt_entry.specs.Changes.{key_in}
 use Rattle.ddt_entry.specs.Records.{change_in}
 use Rattle.ddt_entry.specs.declared.key.Key.{Key}

@@ -13,6 +13,8 @@
 
 mod laws;
 mod seal_form;
+#[cfg(test)]
+mod seal_form_tests;
 mod setting;
 mod slot_record;
 #[cfg(test)]
