@@ -1,11 +1,10 @@
 -- What the stages of the first seal leave.
-use Rattle.std.proofs.Common.{◌≡◌, ◌⊎◌, ℕ, ◌<◌, ◌≤◌, Option, Some, None, length, refl, sym, ap, subst, ◌∙◌, inl, inr, ⊎_elim, arith}
-use Rattle.std.specs.Prelude.{List, slice_set}
-use Rattle.disk_model.specs.Images.{Image, IsImage, Holds, Torn}
+use Rattle.std.proofs.Common.{◌≡◌, ℕ, ◌<◌, ◌≤◌, Some, None, ◌∙◌, inl, inr, ⊎_elim, arith}
+use Rattle.std.specs.Prelude.{slice_set}
+use Rattle.disk_model.specs.Images.{Image, IsImage, Torn}
 use Rattle.disk_model.proofs.Sectors.{IsImage-torn, Torn-set}
 use Rattle.uber_ring.specs.Seals.{FitsSeal, body_bytes, open_gate}
 use Rattle.uber_ring.specs.Ring.{slot_count, gate_sector, body_sector, behind, seal_at, newest, GateTorn, BodyTorn}
-use Rattle.uber_ring.specs.declared.seal.Seal.{Seal}
 use Rattle.uber_ring.proofs.Gates.{length-open_gate}
 use Rattle.uber_ring.proofs.RingLaws.{torn_gate, torn_body, seal_at-open}
 use Rattle.uber_ring.proofs.Newest.{all_none, newest_none, newest_begins}
@@ -90,8 +89,8 @@ module _ (tag sectors : ℕ) (image : Image) (is : IsImage sectors image) (none 
             outside = outside_gate c opening.torn;
           })
           (λ shown.
-            let done = begun c opening (shown ∙ seal_behind) in
-            record { shows = inr done.empty; outside = done.outside })
+          let done = begun c opening (shown ∙ seal_behind) in
+          record { shows = inr done.empty; outside = done.outside })
           (opening.own flat_version)
 
       -- once it is open

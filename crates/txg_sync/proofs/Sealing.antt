@@ -1,5 +1,5 @@
 -- What the stages of the first seal come to, one after another, where the disk tells its contents and where it doesn't.
-use Rattle.std.proofs.Common.{◌≡◌, ℕ, ◌≤◌, Option, Some, None, subst, sym, ◌∙◌}
+use Rattle.std.proofs.Common.{◌≡◌, ℕ, ◌≤◌, Option, Some, None, subst}
 use Rattle.std.specs.Prelude.{List, slice_set}
 use Rattle.disk_model.specs.Images.{Image, IsImage, TellsImage, Holds}
 use Rattle.disk_model.specs.Crashes.{LeavesOnly, NothingPending}
@@ -30,8 +30,7 @@ pub begins_of : (tag sectors : ℕ) (seal : Seal) (old mid later new : Option Im
 begins_of tag sectors seal None mid later new enough few is none fits same takes filled opened = tt
 begins_of tag sectors seal (Some image) mid later new enough few is none fits same takes filled opened =
     let taken : Image = takes.0 in
-    let seen_later = holds_some taken mid later _ _ takes.1 (as_new tag sectors seal mid later same filled) in
-    (
+    let seen_later = holds_some taken mid later _ _ takes.1 (as_new tag sectors seal mid later same filled) in (
       slice_set (slice_set taken (body_sector 1) (body_bytes (new_seal tag sectors))) (gate_sector 1) open_gate,
       holds_some _ later new _ _ seen_later opened,
       begun_opened tag sectors image is none taken takes.2 enough few (subst FitsSeal same fits),

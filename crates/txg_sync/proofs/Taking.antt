@@ -1,14 +1,14 @@
 -- What the taking of a slot leaves.
-use Rattle.std.proofs.Common.{◌≡◌, ◌⊎◌, ℕ, ◌<◌, ◌≤◌, Bool, true, false, Option, Some, None, refl, sym, ap, subst, ◌∙◌, inl, inr, ⊎_elim, arith}
+use Rattle.std.proofs.Common.{◌≡◌, ℕ, ◌<◌, ◌≤◌, Bool, true, false, Option, Some, None, refl, sym, subst, ◌∙◌, inl, inr, ⊎_elim}
 use Rattle.std.specs.Prelude.{IfSome, MatchBool, slice_set}
-use Rattle.disk_model.specs.Images.{Image, IsImage, TellsImage, Torn, Stays}
+use Rattle.disk_model.specs.Images.{Image, IsImage, TellsImage, Stays}
 use Rattle.disk_model.proofs.Sectors.{Torn-same, Torn-set}
 use Rattle.uber_ring.specs.Seals.{closed_gate}
-use Rattle.uber_ring.specs.Ring.{slot_count, ring_sectors, gate_sector, gate_is_open, behind, seal_at, GateTorn, Closes}
+use Rattle.uber_ring.specs.Ring.{slot_count, ring_sectors, gate_sector, gate_is_open, GateTorn, Closes}
 use Rattle.uber_ring.proofs.RingLaws.{torn_gate, seal_at-open}
 use Rattle.uber_ring.proofs.Gates.{length-closed_gate}
 use Rattle.uber_ring.proofs.Written.{gate_closed}
-use Rattle.txg_sync.specs.Stages.{TakingLeaves, IsTaken, Takes}
+use Rattle.txg_sync.specs.Stages.{TakingLeaves, Takes}
 
 module _ (slot sectors : ℕ) (image : Image) (is : IsImage sectors image) where
   -- nothing was written
@@ -31,13 +31,13 @@ module _ (slot sectors : ℕ) (image : Image) (is : IsImage sectors image) where
   -- what is told after it
   pub taken_of : (was_open : Bool) (new : Option Image) → slot < slot_count → ring_sectors ≤ sectors → was_open ≡ gate_is_open image slot → Closes slot was_open (Some image) new → Takes slot (Some image) new
   taken_of true new in_ring enough gate closes = (
-      slice_set image (gate_sector slot) closed_gate,
-      closes,
-      record {
-        taking = taking_open (slice_set image (gate_sector slot) closed_gate) (sym gate) (torn_gate slot image (slice_set image (gate_sector slot) closed_gate) (Torn-set image (gate_sector slot) closed_gate length-closed_gate));
-        closed = gate_closed sectors image is slot in_ring enough;
-      },
-    )
+    slice_set image (gate_sector slot) closed_gate,
+    closes,
+    record {
+      taking = taking_open (slice_set image (gate_sector slot) closed_gate) (sym gate) (torn_gate slot image (slice_set image (gate_sector slot) closed_gate) (Torn-set image (gate_sector slot) closed_gate length-closed_gate));
+      closed = gate_closed sectors image is slot in_ring enough;
+    },
+  )
   taken_of false new in_ring enough gate closes = (image, closes, record { taking = still_taking; closed = sym gate })
 
 -- told contents that stay are the same

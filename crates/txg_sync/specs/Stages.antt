@@ -1,5 +1,5 @@
 -- What the stages of a sync leave, of told contents and after a crash.
-use Rattle.std.specs.Prelude.{◌≡◌, ◌≢◌, ◌⊎◌, ⊤, ℕ, Bool, false, length, Option, Some, None}
+use Rattle.std.specs.Prelude.{◌≡◌, ◌≢◌, ◌⊎◌, ⊤, ℕ, false, length, Option, Some, None}
 use Rattle.disk_model.specs.Images.{Image, Torn, sector_at}
 use Rattle.uber_ring.specs.Ring.{gate_sector, body_sector, gate_is_open, seal_at, newest, SameElsewhere}
 use Rattle.pool_model.specs.Pool.{empty_pool}

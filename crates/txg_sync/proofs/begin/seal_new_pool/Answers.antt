@@ -1,5 +1,5 @@
 -- Each stage leaves no seal that counts, or the new one.
-use Rattle.std.proofs.Common.{◌≡◌, ◌≤◌, subst, sym}
+use Rattle.std.proofs.Common.{◌≤◌, subst, sym}
 use Rattle.txg_sync.proofs.Sealing.{begins_of, while_taking, while_filling, while_opening}
 use Rattle.txg_sync.proofs.begin.seal_new_pool.Goals as goal
 
