@@ -1,0 +1,16 @@
+//! How a pool comes back from an image.
+//!
+//! A flat image keeps its parts in five chains of pages (`page_tree`), each a list of records of 72 bytes.
+//! Here a chain is read, and its records become the slots, the entries or the changes that they spell, in
+//! their order; or the chain is found to be damaged, where a page isn't one or a record spells nothing.
+//! `read_flat` reads all five, in the order of the seal's pointers, each sector at most once. It is
+//! exactly `IsRead` of `table_state`, which says what makes of these parts a pool.
+#![tactic(auto)]
+
+mod changes;
+mod flat;
+mod slots;
+
+pub use changes::{ChangeList, EntryList, changes_of, entries_of};
+pub use flat::read_records;
+pub use slots::{SlotList, slots_of};
