@@ -9,8 +9,10 @@
 
 mod changes;
 mod flat;
+mod parts;
 mod slots;
 
 pub use changes::{ChangeList, EntryList, changes_of, entries_of};
 pub use flat::read_records;
+pub use parts::{read_changes, read_entries, read_slots};
 pub use slots::{SlotList, slots_of};

@@ -1,0 +1,11 @@
+use Rattle.std.proofs.Common.{Ok, refl}
+use Rattle.ddt_entry.specs.Records.{change_in}
+use Rattle.ddt_entry.specs.declared.entry.Change.TheVariants.{Entry}
+use Rattle.pool_import.specs.Spelled.{is_no_entry}
+use Rattle.pool_import.proofs.Readings.{no_reading}
+use Rattle.pool_import.proofs.parts.read_entries.Goals as goal
+
+pub returns-clause-damaged : goal.returns-clause-damaged
+returns-clause-damaged g c sector fault =
+    no_reading change_in (λ entry. Ok (Entry entry)) is_no_entry (λ entry. refl) (g.D.Disk.seen c.args.disk.now) c.args.named.now.items c.args.root.now c.read_records.new.named.items c.in_ok-records.records.items
+    c.in_ok-records.ensures.read (c.entries_of.ensures.damaged sector fault).1
