@@ -10,9 +10,11 @@
 mod changes;
 mod flat;
 mod parts;
+mod records;
 mod slots;
 
 pub use changes::{ChangeList, EntryList, changes_of, entries_of};
-pub use flat::read_records;
+pub use flat::{FlatImage, read_flat};
 pub use parts::{read_changes, read_entries, read_slots};
+pub use records::read_records;
 pub use slots::{SlotList, slots_of};

@@ -7,7 +7,7 @@ ghost use Rattle.table_state.specs.declared.slot_record.SlotRecord.{SlotRecord};
 ghost use Rattle.pool_import.specs.Parts.{ReadsSlots, ReadsEntries, ReadsChanges, first_sector};
 
 use crate::changes::{ChangeList, EntryList, changes_of, entries_of};
-use crate::flat::read_records;
+use crate::records::read_records;
 use crate::slots::{SlotList, slots_of};
 use disk_model::Disk;
 use page_tree::{PageFault, PagePtr, SectorList};
