@@ -1,9 +1,9 @@
 -- Where a record spells nothing, its chain spells no list.
-use Rattle.std.proofs.Common.{◌≡◌, ℕ, Bool, true, false, ◌||◌, List, [], ◌∷◌, Option, Some, None, map, length, get_or, drop, refl, sym, ap, ◌∙◌}
+use Rattle.std.proofs.Common.{◌≡◌, ℕ, Bool, true, false, ◌||◌, List, [], ◌∷◌, Option, Some, None, map, get_or, drop, refl, sym, ap, ◌∙◌}
 use Rattle.std.specs.Prelude.{IfSome, unwrap_or}
 use Rattle.std.specs.List.{list_any}
 use Rattle.disk_model.specs.Images.{Image}
-use Rattle.page_tree.specs.Chains.{Walked, chain_in}
+use Rattle.page_tree.specs.Chains.{Walked}
 use Rattle.page_tree.specs.declared.pointer.PagePtr.{PagePtr}
 use Rattle.table_state.specs.Flat.{Reads}
 

@@ -68,7 +68,15 @@ pub fn read_flat<D: Disk>(
 {
     let mut named = SectorList::new(alloc);
     let first = root(seal, 0);
-    let slots = read_slots(alloc, disk, meter, &first, &mut named, seal.sectors, seal.group)?;
+    let slots = read_slots(
+        alloc,
+        disk,
+        meter,
+        &first,
+        &mut named,
+        seal.sectors,
+        seal.group,
+    )?;
     let second = root(seal, 1);
     let unique = read_entries(alloc, disk, meter, &second, &mut named)?;
     let third = root(seal, 2);

@@ -12,6 +12,8 @@ mod flat;
 mod parts;
 mod records;
 mod slots;
+#[cfg(test)]
+mod tests;
 
 pub use changes::{ChangeList, EntryList, changes_of, entries_of};
 pub use flat::{FlatImage, read_flat};

@@ -1,4 +1,4 @@
-use Rattle.std.proofs.Common.{◌≡◌, map, Ok, ℕ, ◌-◌, ◌≤◌, ◌++◌, length, drop}
+use Rattle.std.proofs.Common.{◌≡◌, map, Ok, ◌-◌, ◌≤◌, ◌++◌, length, drop}
 use Rattle.ddt_entry.specs.Records.{change_in}
 use Rattle.pool_import.proofs.changes.changes_of.Given as goal
 

@@ -1,4 +1,4 @@
-use Rattle.std.proofs.Common.{◌≡◌, map, Some, ℕ, ◌-◌, ◌≤◌, ◌++◌, length, drop}
+use Rattle.std.proofs.Common.{◌≡◌, map, Some, ◌-◌, ◌≤◌, ◌++◌, length, drop}
 use Rattle.table_state.specs.SlotRecords.{slot_in}
 use Rattle.pool_import.proofs.slots.slots_of.Given as goal
 
