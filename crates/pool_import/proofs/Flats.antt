@@ -11,7 +11,7 @@ use Rattle.table_state.specs.SealForms.{slots_root, unique_root, duplicate_root,
 use Rattle.table_state.specs.Flat.{Flat, Reads, IsRead}
 use Rattle.table_state.specs.declared.slot_record.SlotRecord.{SlotRecord}
 use Rattle.pool_import.specs.Parts.{ReadsSlots, ReadsEntries, ReadsChanges}
-use Rattle.pool_import.proofs.Readings.{one_walk}
+use Rattle.table_state.proofs.FlatLaws.{one_walk}
 
 -- a walk from the same sectors and the same root
 moved : (image : Image) (before before' : List ℕ) (root root' : Option PagePtr) (after : List ℕ) (records : List (List ℕ)) → before ≡ before' → root ≡ root' → Reads image before' root' after records → Reads image before root after records
@@ -21,7 +21,7 @@ moved image before before' root root' after records start first reads =
 -- comes to the same end
 same_end : (image : Image) (before before' : List ℕ) (root root' : Option PagePtr) (after after' : List ℕ) (records records' : List (List ℕ)) → before ≡ before' → root ≡ root' → Reads image before root after records → Reads image before' root' after' records' → after ≡ after'
 same_end image before before' root root' after after' records records' start first one other =
-    (one_walk image before root after after' records records' one (moved image before before' root root' after' records' start first other)).0
+    (one_walk image before before root after after' records records' refl one (moved image before before' root root' after' records' start first other)).0
 
 module _ (seal : Seal) (told : Option Image) (n0 : List ℕ) (start : n0 ≡ []) (r0 : Option PagePtr) (is0 : r0 ≡ slots_root seal) where
   -- no flat image, where the first chain is none

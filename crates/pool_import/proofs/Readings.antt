@@ -1,20 +1,11 @@
 -- Where a record spells nothing, its chain spells no list.
 use Rattle.std.proofs.Common.{◌≡◌, ℕ, Bool, true, false, ◌||◌, List, [], ◌∷◌, Option, Some, None, map, get_or, drop, refl, sym, ap, ◌∙◌}
-use Rattle.std.specs.Prelude.{IfSome, unwrap_or}
+use Rattle.std.specs.Prelude.{IfSome}
 use Rattle.std.specs.List.{list_any}
 use Rattle.disk_model.specs.Images.{Image}
-use Rattle.page_tree.specs.Chains.{Walked}
 use Rattle.page_tree.specs.declared.pointer.PagePtr.{PagePtr}
 use Rattle.table_state.specs.Flat.{Reads}
-
--- a walk comes to one end
-pub one_walk : (image : Image) (before : List ℕ) (root : Option PagePtr) (after after' : List ℕ) (records records' : List (List ℕ)) → Reads image before root after records → Reads image before root after' records' → (after ≡ after') × (records ≡ records')
-one_walk image before root after after' records records' one other =
-    let same : Some (walked after records) ≡ Some (walked after' records') = sym one ∙ other in
-    (ap (λ o. (unwrap_or o (walked after records)).named) same, ap (λ o. (unwrap_or o (walked after records)).records) same)
-  where
-    walked : List ℕ → List (List ℕ) → Walked
-    walked named rs = record { named = named; records = rs }
+use Rattle.table_state.proofs.FlatLaws.{one_walk}
 
 -- what is spelled right is nowhere wrong
 spelled_right : {X Y : Type 0} (f : List ℕ → Y) (g : X → Y) (bad : Y → Bool) → ((x : X) → bad (g x) ≡ false) → (rs : List (List ℕ)) (xs : List X) → map f rs ≡ map g xs → list_any (λ r. bad (f r)) rs ≡ false
@@ -34,7 +25,7 @@ pub no_reading : {X Y : Type 0} (f : List ℕ → Y) (g : X → Y) (bad : Y → 
     → IfSome told (λ image. Reads image before root after records) → list_any (λ r. bad (f r)) records ≡ true → IfSome told (λ image. (after' : List ℕ) (xs : List X) → ((records' : List (List ℕ)) × Reads image before root after' records' × (map f records' ≡ map g xs)) → ⊥)
 no_reading f g bad right None before root after records one wrong = tt
 no_reading f g bad right (Some image) before root after records one wrong = λ after' xs reading.
-    let same = one_walk image before root after after' records reading.0 one reading.1 in
+    let same = one_walk image before before root after after' records reading.0 refl one reading.1 in
     clash (sym wrong ∙ ap (list_any (λ r. bad (f r))) same.1 ∙ spelled_right f g bad right reading.0 xs reading.2)
   where
     clash : true ≡ false → ⊥

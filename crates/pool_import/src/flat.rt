@@ -52,8 +52,9 @@ fn root(seal: &Seal, at: usize) -> Option<PagePtr>
     seal.pointers.get(at).copied()
 }
 
-/// Reads the five chains that a seal names, each sector at most once. `Damaged` comes only where they
-/// are damaged, or a record spells nothing of what it should; the error `Memory` is want of memory.
+/// Reads the five chains that a seal names, one behind the other. `Damaged` comes only where they are
+/// damaged, name a sector twice, or have a record that spells nothing of what it should; the error
+/// `Memory` is want of memory.
 pub fn read_flat<D: Disk>(
     alloc: Global,
     disk: &D,

@@ -3,8 +3,8 @@
 //! A flat image keeps its parts in five chains of pages (`page_tree`), each a list of records of 72 bytes.
 //! Here a chain is read, and its records become the slots, the entries or the changes that they spell, in
 //! their order; or the chain is found to be damaged, where a page isn't one or a record spells nothing.
-//! `read_flat` reads all five, in the order of the seal's pointers, each sector at most once. It is
-//! exactly `IsRead` of `table_state`, which says what makes of these parts a pool.
+//! `read_flat` reads all five, in the order of the seal's pointers, and finds a sector that is named twice
+//! damaged. It is exactly `IsRead` of `table_state`, which says what makes of these parts a pool.
 #![tactic(auto)]
 
 mod changes;

@@ -19,7 +19,7 @@ use Rattle.table_state.specs.SlotRecords.{slot_in}
 use Rattle.table_state.specs.declared.slot_record.SlotRecord.{SlotRecord}
 
 -- a walk comes to one end
-one_walk : (image : Image) (before before' : List ℕ) (root : Option PagePtr) (after after' : List ℕ) (records records' : List (List ℕ)) → before ≡ before' → Reads image before root after records → Reads image before' root after' records'
+pub one_walk : (image : Image) (before before' : List ℕ) (root : Option PagePtr) (after after' : List ℕ) (records records' : List (List ℕ)) → before ≡ before' → Reads image before root after records → Reads image before' root after' records'
     → (after ≡ after') × (records ≡ records')
 one_walk image before before' root after after' records records' start one other =
     let same : Some (walked after records) ≡ Some (walked after' records') = sym one ∙ ap (λ (b : List ℕ). chain_in image (length image) b root) start ∙ other in
