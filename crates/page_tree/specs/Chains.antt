@@ -1,5 +1,5 @@
 -- Chains of pages: how a flat image keeps a list of records.
-use Rattle.std.specs.Prelude.{◌≡◌, ℕ, zero, suc, ◌+◌, ◌-◌, ◌*◌, ◌/◌, ◌≤◌, ◌⊎◌, Bool, not, ◌&&◌, ◌||◌, ◌==◌, nat_le, nat_lt, List, [], ◌∷◌, ◌++◌, length, take, drop, fold, replicate, codes, slice_set, false, Option, Some, None, ⊤, if◌then◌else◌}
+use Rattle.std.specs.Prelude.{◌≡◌, ℕ, zero, suc, ◌+◌, ◌-◌, ◌*◌, ◌/◌, ◌≤◌, ◌⊎◌, Bool, not, ◌&&◌, ◌||◌, ◌==◌, nat_le, nat_lt, List, [], ◌∷◌, ◌++◌, length, take, drop, fold, replicate, codes, slice_set, true, false, Option, Some, None, ⊤, if◌then◌else◌}
 use Rattle.std.specs.List.{concat, list_any, AllByRecursion}
 use Rattle.std.specs.Str.{bytes_eq}
 use Rattle.sha2.specs.Sha256.{sha256}
@@ -157,3 +157,12 @@ chain_in image sectors named root = walk sectors image sectors named (pointer_or
 -- a walk came to its end with these sectors named, and its records behind those that there were
 abbrev pub HasWalked : Option Walked → (named : List ℕ) → (old new : List (List ℕ)) → Type 0
 HasWalked walked named old new = (records : List (List ℕ)) × (walked ≡ Some (record { named = named; records = records })) × (new ≡ old ++ records)
+
+-- an image holds what these writes put into their sectors
+abbrev pub HoldsWrites : Image → List PageWrite → Type 0
+HoldsWrites image writes = AllByRecursion (λ write. sector_at image write.sector ≡ write.bytes) writes
+
+-- places where a chain can stand: on the disk, outside the ring, each once, and none that is named yet
+abbrev pub AreOpen : (sectors : ℕ) → (named places : List ℕ) → Type 0
+AreOpen sectors named [] = ⊤
+AreOpen sectors named (place ∷ places) = (is_open_to sectors named place ≡ true) × AreOpen sectors (named ++ place ∷ []) places

@@ -1,4 +1,3 @@
 pub mod Afterwards
 pub mod LastTracked
-pub mod Sets
 pub mod Turns

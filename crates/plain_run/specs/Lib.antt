@@ -3,4 +3,3 @@ pub mod Openings
 pub mod Placed
 pub mod Rows
 pub mod Standings
-pub mod Tables

@@ -16,8 +16,6 @@ mod group;
 mod opening;
 mod row;
 mod standing;
-mod sync;
-mod table;
 #[cfg(test)]
 mod tests;
 
@@ -27,4 +25,3 @@ pub use fresh::PlaceQueue;
 pub use group::{after_lanes, writes_contents};
 pub use opening::{PlacedBlock, PlainKnown, PlainOpening};
 pub use standing::PlainStanding;
-pub use table::PlainTable;

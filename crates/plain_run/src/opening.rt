@@ -9,8 +9,8 @@ ghost use Rattle.pool_model.specs.Plain.{sight_of};
 ghost use Rattle.plain_run.specs.Openings.{bytes_at, opening_by};
 ghost use Rattle.plain_run.specs.Placed.{placed_of};
 
-use crate::table::PlainTable;
 use ddt_entry::{Home, Key, KeyOf};
+use plain_table::PlainTable;
 use plain_pool::{PlainPointer, copied_block};
 use pool_model::{Block, ReadAnswer};
 use reserved_list::ReservedList;

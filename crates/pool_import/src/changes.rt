@@ -5,16 +5,10 @@ ghost use Rattle.ddt_entry.specs.declared.entry.Change.TheVariants.{Entry as AnE
 ghost use Rattle.page_tree.specs.declared.fault.PageFault.TheVariants.{Damaged, ReadFault};
 ghost use Rattle.pool_import.specs.Spelled.{spells_no_change, spells_no_entry};
 
-use ddt_entry::{Change, Entry, read_change};
+use ddt_entry::{Change, read_change};
 use page_tree::{PageFault, RecordList};
-use reserved_list::ReservedList;
+use pool_model::{ChangeList, EntryList};
 use std::alloc::Global;
-
-/// Changes in the order of their records.
-pub type ChangeList = ReservedList<Change>;
-
-/// Entries in the order of their records.
-pub type EntryList = ReservedList<Entry>;
 
 /// The changes that records spell. `Damaged`, with the sector `at`, comes only where one of them spells no
 /// change; the error `Memory` is want of memory for the list.

@@ -3,13 +3,13 @@ ghost use Rattle.disk_model.specs.Faults.{Rose};
 ghost use Rattle.page_tree.specs.declared.fault.PageFault.TheVariants.{Damaged, ReadFault};
 ghost use Rattle.table_state.specs.Flat.{Flat, IsRead};
 
-use crate::changes::{ChangeList, EntryList};
 use crate::parts::{read_changes, read_entries, read_slots};
-use crate::slots::SlotList;
 use disk_model::Disk;
 use page_tree::{PageFault, PagePtr, SectorList};
+use pool_model::{ChangeList, EntryList};
 use std::alloc::Global;
 use std::marker::Model;
+use table_state::SlotList;
 use uber_ring::Seal;
 
 /// What the five chains of a flat image keep, and the sectors of their pages in the order in which they

@@ -15,8 +15,8 @@ mod slots;
 #[cfg(test)]
 mod tests;
 
-pub use changes::{ChangeList, EntryList, changes_of, entries_of};
+pub use changes::{changes_of, entries_of};
 pub use flat::{FlatImage, read_flat};
 pub use parts::{read_changes, read_entries, read_slots};
 pub use records::read_records;
-pub use slots::{SlotList, slots_of};
+pub use slots::slots_of;

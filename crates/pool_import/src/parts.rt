@@ -6,12 +6,14 @@ ghost use Rattle.page_tree.specs.declared.fault.PageFault.TheVariants.{Damaged, 
 ghost use Rattle.table_state.specs.declared.slot_record.SlotRecord.{SlotRecord};
 ghost use Rattle.pool_import.specs.Parts.{ReadsSlots, ReadsEntries, ReadsChanges, first_sector};
 
-use crate::changes::{ChangeList, EntryList, changes_of, entries_of};
+use crate::changes::{changes_of, entries_of};
 use crate::records::read_records;
-use crate::slots::{SlotList, slots_of};
+use crate::slots::slots_of;
 use disk_model::Disk;
 use page_tree::{PageFault, PagePtr, SectorList};
+use pool_model::{ChangeList, EntryList};
 use std::alloc::Global;
+use table_state::SlotList;
 
 /// The sector of a chain's first page, and 0 where it has none.
 fn first_sector(root: &Option<PagePtr>) -> u64

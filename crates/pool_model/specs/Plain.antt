@@ -15,6 +15,7 @@ use Rattle.pool_model.specs.declared.answers.ReadAnswer.{ReadAnswer}
 use Rattle.pool_model.specs.declared.answers.ReadAnswer.TheVariants as reads
 use Rattle.pool_model.specs.declared.answers.CommandAnswer.{CommandAnswer}
 use Rattle.pool_model.specs.declared.answers.CommandAnswer.TheVariants as answers
+use Rattle.pool_model.specs.declared.closed.StoredBlock.{StoredBlock}
 use Rattle.pool_model.specs.declared.notes.Kind.{Kind}
 use Rattle.pool_model.specs.declared.notes.Outcome.{Outcome}
 use Rattle.pool_model.specs.declared.notes.LaneNote.{LaneNote}
@@ -107,3 +108,11 @@ lane_told note = record { lane = note.lane; replies = map reply_of note.answers.
 
 abbrev pub told_of : GroupNote → Told
 told_of note = record { number = note.number; kind = note.kind; outcome = note.outcome; taken = note.taken; lanes = map lane_told note.lanes.items }
+
+-- a block with the place that it was given
+pub record Stored : Type 0 where
+  pub place : ℕ
+  pub bytes : List ℕ
+
+abbrev pub stored_of : StoredBlock → Stored
+stored_of stored = record { place = stored.place; bytes = stored.block.items }

@@ -1,5 +1,8 @@
 -- How much room a group needs, and how much there is.
-use Rattle.std.specs.Prelude.{ℕ, ◌+◌, ◌*◌, Bool, true, false, ◌==◌, List, count_by, if◌then◌else◌}
+use Rattle.std.specs.Prelude.{ℕ, ◌+◌, ◌*◌, Bool, true, false, not, ◌&&◌, ◌||◌, ◌==◌, nat_le, nat_lt, List, map, count_by, if◌then◌else◌}
+use Rattle.std.specs.List.{list_any, range_with_len}
+use Rattle.pool_model.specs.Pool.{Pool, run_length}
+use Rattle.pool_model.specs.Table.{TableState, waiting_in}
 use Rattle.pool_model.specs.Plain.{Task, Act, write, read, free}
 
 abbrev pub is_write : Act → Bool
@@ -28,3 +31,23 @@ abbrev pub need : (pages limit changes writes : ℕ) → ℕ
 need pages limit changes writes =
     let metadata : ℕ = pages + 6 * changes + flush_room limit in
     if writes == 0 then metadata else writes + 2 * metadata + flush_room limit + 6
+
+-- whether a sector lies in the run of this length from a place on
+abbrev pub lies_in : (sector place length : ℕ) → Bool
+lies_in sector place length = nat_le place sector && nat_lt sector (place + length)
+
+-- whether something names a sector: the ring, a page of the image, a pointer, or a home that waits
+abbrev pub is_used : (pages : List ℕ) → Pool → TableState → (sector : ℕ) → Bool
+is_used pages pool table sector =
+    nat_lt sector 32
+    || list_any (λ page. page == sector) pages
+    || list_any (λ p. lies_in sector p.place (run_length p.key)) pool.pointers
+    || list_any (λ entry. lies_in sector entry.home.place (run_length entry.key)) (waiting_in table)
+
+-- for each sector of a pool whether something names it
+abbrev pub used_sectors : (sectors : ℕ) → (pages : List ℕ) → Pool → TableState → List Bool
+used_sectors sectors pages pool table = map (is_used pages pool table) (range_with_len 0 sectors)
+
+-- how many sectors nothing names
+abbrev pub free_count : (sectors : ℕ) → (pages : List ℕ) → Pool → TableState → ℕ
+free_count sectors pages pool table = count_by not (used_sectors sectors pages pool table)

@@ -17,16 +17,22 @@
 #![tactic(auto)]
 
 mod answers;
+mod closed;
 mod commands;
+mod faults;
 mod notes;
 mod stats;
 mod worked;
 
 pub use answers::{Answers, CommandAnswer, FreeAnswer, ReadAnswer, WriteAnswer};
+pub use closed::{
+    ChangeList, Closed, Contents, EntryList, SlotChange, SlotChanges, StoredBlock,
+};
 pub use commands::{
     Block, Command, CommandFile, CommandList, Item, ItemList, LanesGroup, Mode, Payload, PruneRule,
     Verb,
 };
+pub use faults::SyncFault;
 pub use notes::{
     BadKind, GroupNote, GroupNotes, Kind, LaneNote, LaneNotes, Outcome, PlaceList, Session,
 };

@@ -184,3 +184,12 @@ pub record StandsFor (tag : ℕ) (image : Image) (pool : Pool) (table : TableSta
 -- two images hold the same in each of these sectors
 abbrev pub SameIn : (image c : Image) → List ℕ → Type 0
 SameIn image c sectors = AllByRecursion (λ sector. sector_at c sector ≡ sector_at image sector) sectors
+
+-- no seal counts: there is no pool
+abbrev pub HasNoPool : Image → Type 0
+HasNoPool image = newest flat_version image ≡ None
+
+-- a seal counts, and the image stands for no pool
+pub record IsDamaged (tag : ℕ) (image : Image) : Type 0 where
+  pub sealed : HasNoPool image → ⊥
+  pub no_pool : (pool : Pool) (table : TableState) → StandsFor tag image pool table → ⊥

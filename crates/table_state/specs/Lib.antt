@@ -1,3 +1,6 @@
 pub mod Flat
 pub mod SealForms
 pub mod SlotRecords
+pub mod Pools
+pub mod Tables
+pub mod Sealed

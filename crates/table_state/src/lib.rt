@@ -12,6 +12,7 @@
 #![tactic(auto)]
 
 mod laws;
+mod pool;
 mod seal_form;
 #[cfg(test)]
 mod seal_form_tests;
@@ -21,6 +22,7 @@ mod slot_record;
 mod slot_record_tests;
 
 pub use laws::{a_new_image_is_empty, an_image_hangs_on_what_it_names, one_pool_for_an_image};
+pub use pool::{Pool, SlotList};
 pub use seal_form::{LAST_GROUP, MOST_SECTORS, is_formed, new_seal};
 pub use setting::{byte_of, mode_of, modes_read_back};
 pub use slot_record::{

@@ -1,7 +1,0 @@
--- A plain program's table as the definitions see it.
-use Rattle.pool_model.specs.Table.{TableState}
-use Rattle.plain_run.specs.declared.table.PlainTable.TheInside.{Inside}
-
-abbrev pub table_of : Inside → TableState
-table_of table =
-    record { zap = table.zap.items; flush = table.flush.items; active = table.active.items; age = table.age; checkpoint = table.checkpoint }

@@ -1,0 +1,131 @@
+-- What a group's sync writes: the records of the five chains, and the seal.
+use Rattle.std.specs.Prelude.{◌≡◌, ℕ, ◌≤◌, ◌<◌, Bool, true, List, [], ◌∷◌, ◌++◌, length, map, replicate, sum_by, Option, Some, None}
+use Rattle.std.specs.List.{AllByRecursion, flat_map}
+use Rattle.ddt_entry.specs.Changes.{key_in}
+use Rattle.ddt_entry.specs.Records.{record_bytes, Fits as ChangeFits}
+use Rattle.ddt_entry.specs.declared.key.Key.{Key}
+use Rattle.ddt_entry.specs.declared.entry.Entry.{Entry}
+use Rattle.ddt_entry.specs.declared.entry.Change.TheVariants as changes
+use Rattle.disk_model.specs.Images.{Image, sector_at}
+use Rattle.page_tree.specs.Chains.{Chain, chain_of, pages_for, pointer_or_null, HoldsWrites, AreOpen}
+use Rattle.page_tree.specs.Pointers.{null_pointer}
+use Rattle.page_tree.specs.declared.pointer.PagePtr.{PagePtr}
+use Rattle.uber_ring.specs.Ring.{newest}
+use Rattle.uber_ring.specs.declared.seal.Seal.{Seal}
+use Rattle.pool_model.specs.declared.commands.Mode.{Mode}
+use Rattle.pool_model.specs.Pool.{Pool, Pairwise, IsWellFormed}
+use Rattle.pool_model.specs.Plain.{Stored}
+use Rattle.pool_model.specs.Table.{TableState, Matches, waiting_in}
+use Rattle.table_state.specs.SealForms.{mode_byte, fewest_sectors, most_sectors, last_group}
+use Rattle.table_state.specs.SlotRecords.{slot_bytes, is_slot, FitsSlot}
+use Rattle.table_state.specs.Flat.{Flat, flat_version, counted_homes, stands_before, IsClear}
+use Rattle.table_state.specs.Tables.{IsTable, IsTableWithin, unique_in, duplicate_in}
+use Rattle.table_state.specs.Pools.{with_blocks, pool_after}
+use Rattle.table_state.specs.declared.slot_record.SlotRecord.{SlotRecord}
+
+-- a chain that is to be written: its records, and a place for each page
+pub record ChainPart : Type 0 where
+  pub places : List ℕ
+  pub records : List (List ℕ)
+
+abbrev pub part_chain : ChainPart → Chain
+part_chain part = chain_of part.places part.records
+
+-- the places of all pages, in the order in which they are read again
+abbrev pub places_in : List ChainPart → List ℕ
+places_in parts = flat_map (λ part. part.places) parts
+
+abbrev pub roots_of : List ChainPart → List PagePtr
+roots_of parts = map (λ part. pointer_or_null (part_chain part).root) parts
+
+-- an image holds the pages of these chains
+abbrev pub HoldsParts : Image → List ChainPart → Type 0
+HoldsParts image parts = AllByRecursion (λ part. HoldsWrites image (part_chain part).writes) parts
+
+abbrev pub entry_bytes : Entry → List ℕ
+entry_bytes entry = record_bytes (changes.Entry entry)
+
+-- the records of the five chains: slots, unique, duplicate, active, flushing
+abbrev pub records_in : List SlotRecord → TableState → List (List (List ℕ))
+records_in slots table =
+    map slot_bytes slots ∷ map entry_bytes (unique_in table.zap) ∷ map entry_bytes (duplicate_in table.zap) ∷ map record_bytes table.active ∷ map record_bytes table.flush ∷ []
+
+-- what an image keeps then
+abbrev pub flat_of : List SlotRecord → TableState → (pages : List ℕ) → Flat
+flat_of slots table pages =
+    record { slots = slots; unique = unique_in table.zap; duplicate = duplicate_in table.zap; active = table.active; flushing = table.flush; named = pages }
+
+-- ---- The seal
+
+abbrev pub flag_of : {X : Type 0} → Option X → ℕ
+flag_of None = 0
+flag_of (Some value) = 1
+
+abbrev pub quota_number : Option ℕ → ℕ
+quota_number None = 0
+quota_number (Some quota) = quota
+
+abbrev pub checkpoint_len : Option Key → ℕ
+checkpoint_len None = 0
+checkpoint_len (Some key) = key.len
+
+abbrev pub checkpoint_digest : Option Key → List ℕ
+checkpoint_digest None = replicate 32 0
+checkpoint_digest (Some key) = key.digest
+
+-- the seal of a group: the settings, the state of the table, the roots of the five chains with a null pointer behind them, and the sums
+abbrev pub seal_of : (tag sectors group : ℕ) → List Mode → Option ℕ → TableState → (roots : List PagePtr) → (pages : ℕ) → Seal
+seal_of tag sectors group modes quota table roots pages = record {
+  version = flat_version;
+  tag = tag;
+  group = group;
+  sectors = sectors;
+  quota = quota_number quota;
+  quota_flag = flag_of quota;
+  modes = map mode_byte modes;
+  age = table.age;
+  active_changes = length table.active;
+  flushing_changes = length table.flush;
+  checkpoint_flag = flag_of table.checkpoint;
+  checkpoint_len = checkpoint_len table.checkpoint;
+  checkpoint_digest = checkpoint_digest table.checkpoint;
+  pointers = roots ++ null_pointer ∷ [];
+  homes = length (counted_homes table);
+  counts = sum_by (λ entry. entry.home.count) (counted_homes table);
+  pages = pages;
+}
+
+-- ---- When an image holds all of a group
+
+-- slots and changes that an image can keep: in their ranges, sorted, each with a spelling
+pub record CanBeKept (sectors group : ℕ) (slots : List SlotRecord) (table : TableState) : Type 0 where
+  pub enough : fewest_sectors ≤ sectors
+  pub few : sectors ≤ most_sectors
+  pub first : 1 ≤ group
+  pub last : group ≤ last_group
+  pub slots_within : AllByRecursion (λ slot. is_slot sectors group slot ≡ true) slots
+  pub slots_rising : Pairwise (λ a b. stands_before a b ≡ true) slots
+  pub slots_fit : AllByRecursion FitsSlot slots
+  pub sorted : IsTable table
+  pub within : IsTableWithin sectors group table
+  pub zap_fits : AllByRecursion (λ entry. ChangeFits (changes.Entry entry)) table.zap
+  pub flush_fits : AllByRecursion ChangeFits table.flush
+  pub active_fits : AllByRecursion ChangeFits table.active
+  pub checkpoint : table.flush ≡ [] → table.checkpoint ≡ None
+
+-- the pool and the table that an image has to stand for, and no block in a page's sector
+pub record CanStand (sectors : ℕ) (places : List ℕ) (pool : Pool) (table : TableState) : Type 0 where
+  pub well_formed : IsWellFormed sectors pool
+  pub matches : Matches pool table
+  pub pointers_clear : AllByRecursion (λ p. IsClear places p.place) pool.pointers
+  pub waiting_clear : AllByRecursion (λ entry. IsClear places entry.home.place) (waiting_in table)
+
+-- chains of these slots and this table, each page at a place of its own
+pub record AreParts (sectors : ℕ) (slots : List SlotRecord) (table : TableState) (parts : List ChainPart) : Type 0 where
+  pub spelled : map (λ part. part.records) parts ≡ records_in slots table
+  pub pages : AllByRecursion (λ part. length part.places ≡ pages_for (length part.records)) parts
+  pub places_open : AreOpen sectors [] (places_in parts)
+
+-- the blocks of these slots stand in an image as they stand in another
+abbrev pub SameBlocks : (image c : Image) → List SlotRecord → Type 0
+SameBlocks image c slots = AllByRecursion (λ slot. sector_at c slot.pointer.place ≡ sector_at image slot.pointer.place) slots

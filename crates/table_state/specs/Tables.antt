@@ -1,0 +1,37 @@
+-- What a table keeps that an image can keep: sorted lists whose numbers are in their ranges.
+use Rattle.std.specs.Prelude.{◌≡◌, ℕ, Bool, true, ◌==◌, nat_lt, List, filter, Option, None}
+use Rattle.std.specs.List.{AllByRecursion}
+use Rattle.std.specs.Ordering.{is_lt}
+use Rattle.ddt_entry.specs.Keys.{key_cmp}
+use Rattle.ddt_entry.specs.Changes.{key_in}
+use Rattle.ddt_entry.specs.declared.entry.Entry.{Entry}
+use Rattle.ddt_entry.specs.declared.entry.Change.{Change}
+use Rattle.pool_model.specs.Pool.{Pairwise}
+use Rattle.pool_model.specs.Table.{TableState, change_at}
+use Rattle.table_state.specs.Flat.{AreRising, IsWithin, IsChangeWithin, is_past}
+
+-- keys rise from change to change
+abbrev pub AreChangesRising : List Change → Type 0
+AreChangesRising log = Pairwise (λ (a b : Change). is_lt (key_cmp (key_in a) (key_in b)) ≡ true) log
+
+-- a table as an image keeps it: each list sorted by key, homes of the stored table counted, no key in both logs, and the flushing log behind its checkpoint
+pub record IsTable (table : TableState) : Type 0 where
+  pub zap_rising : AreRising table.zap
+  pub zap_counted : AllByRecursion (λ entry. nat_lt 0 entry.home.count ≡ true) table.zap
+  pub flush_rising : AreChangesRising table.flush
+  pub active_rising : AreChangesRising table.active
+  pub logs_apart : AllByRecursion (λ change. change_at (key_in change) table.active ≡ None) table.flush
+  pub past : AllByRecursion (λ change. is_past table.checkpoint (key_in change) ≡ true) table.flush
+
+-- each number of its entries is in its range
+pub record IsTableWithin (sectors group : ℕ) (table : TableState) : Type 0 where
+  pub zap : AllByRecursion (IsWithin sectors group) table.zap
+  pub flush : AllByRecursion (IsChangeWithin sectors group) table.flush
+  pub active : AllByRecursion (IsChangeWithin sectors group) table.active
+
+-- the two classes of the stored table
+abbrev pub unique_in : List Entry → List Entry
+unique_in zap = filter (λ entry. entry.home.count == 1) zap
+
+abbrev pub duplicate_in : List Entry → List Entry
+duplicate_in zap = filter (λ entry. nat_lt 1 entry.home.count) zap

@@ -1,0 +1,51 @@
+use crate::slot_record::SlotRecord;
+use grant_book::SectorSet;
+use page_tree::SectorList;
+use plain_table::PlainTable;
+use pool_model::Mode;
+use reserved_list::ReservedList;
+use std::marker::Model;
+
+/// Slots that hold a pointer.
+pub type SlotList = ReservedList<SlotRecord>;
+
+/// A pool in memory, as the newest sealed group left it.
+#[derive(Drop)]
+pub struct Pool {
+    /// The slots that hold a pointer, in rising order of lane and slot.
+    pub slots: SlotList,
+    /// The dedup table with its logs.
+    pub table: PlainTable,
+    /// The sectors of the image's metadata pages.
+    pub pages: SectorList,
+    /// The sectors that the ring, a page, a pointer or a waiting home names.
+    pub used: SectorSet,
+    /// The mode of each lane.
+    pub modes: [Mode; 16],
+    /// The quota, in bytes at 256 a key.
+    pub limit: Option<u64>,
+    /// The tag of the key function: 1 for SHA-256.
+    pub tag: u8,
+    /// The number of the newest sealed group.
+    pub sealed: u64,
+    /// How many sectors the pool has.
+    pub sectors: u64,
+}
+
+impl Model for Pool {
+    ghost use Rattle.table_state.specs.Pools.{Held};
+
+    ghost Value = { Held };
+
+    ghost view = { λ pool. record {
+      slots = pool.slots.items;
+      table = pool.table;
+      pages = pool.pages.items;
+      used = pool.used;
+      modes = pool.modes;
+      quota = pool.limit;
+      tag = pool.tag;
+      group = pool.sealed;
+      sectors = pool.sectors;
+    } };
+}
