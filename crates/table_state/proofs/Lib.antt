@@ -1,4 +1,10 @@
 pub mod Created
 pub mod FlatLaws
 pub mod Kept
+pub mod Lists
 pub mod SlotLaws
+pub mod Sorted
+pub mod Syncing
+pub mod TableBack
+pub mod TablePuts
+pub mod TableRoom
