@@ -1,5 +1,5 @@
 -- Chains of pages: how a flat image keeps a list of records.
-use Rattle.std.specs.Prelude.{◌≡◌, ℕ, zero, suc, ◌+◌, ◌-◌, ◌*◌, ◌/◌, ◌≤◌, ◌⊎◌, Bool, not, ◌&&◌, ◌||◌, ◌==◌, nat_le, nat_lt, List, [], ◌∷◌, ◌++◌, length, take, drop, fold, replicate, codes, slice_set, false, Option, Some, None, ⊤, if◌then◌else◌}
+use Rattle.std.specs.Prelude.{◌≡◌, ℕ, zero, suc, ◌+◌, ◌-◌, ◌*◌, ◌/◌, ◌≤◌, ◌⊎◌, Bool, not, ◌&&◌, ◌||◌, ◌==◌, nat_le, nat_lt, List, [], ◌∷◌, ◌++◌, length, take, drop, fold, replicate, codes, slice_set, true, false, Option, Some, None, ⊤, if◌then◌else◌}
 use Rattle.std.specs.List.{concat, list_any, AllByRecursion}
 use Rattle.std.specs.Str.{bytes_eq}
 use Rattle.sha2.specs.Sha256.{sha256}
@@ -109,6 +109,10 @@ abbrev pub Written : Option Image → Option Image → List PageWrite → Type 0
 Written None new writes = ⊤
 Written (Some image) new writes = new ≡ Some (fold write_page image writes)
 
+-- an image holds what these writes put into their sectors
+abbrev pub HoldsWrites : Image → List PageWrite → Type 0
+HoldsWrites image writes = AllByRecursion (λ write. sector_at image write.sector ≡ write.bytes) writes
+
 -- images of one size that differ in none but these sectors
 pub record SameBut (places : List ℕ) (old new : Image) : Type 0 where
   pub count : length new ≡ length old
@@ -136,6 +140,11 @@ behind_records records (Some walked) = Some (record walked { records = records +
 -- whether a page may lie in a sector: outside the ring, on the disk, and not named yet
 abbrev pub is_open_to : (sectors : ℕ) → (named : List ℕ) → (sector : ℕ) → Bool
 is_open_to sectors named sector = nat_le 32 sector && nat_lt sector sectors && not (list_any (λ other. other == sector) named)
+
+-- places where a chain can stand: on the disk, outside the ring, each once, and none that is named yet
+abbrev pub AreOpen : (sectors : ℕ) → (named places : List ℕ) → Type 0
+AreOpen sectors named [] = ⊤
+AreOpen sectors named (place ∷ places) = (is_open_to sectors named place ≡ true) × AreOpen sectors (named ++ place ∷ []) places
 
 -- whether a sector holds the page of this pointer, and it has the form
 abbrev pub holds_page : Image → PagePtr → Bool
