@@ -1,19 +1,19 @@
 -- A chain of pages that was written is read back.
-use Rattle.std.proofs.Common.{◌≡◌, ◌≢◌, ℕ, zero, suc, ◌+◌, ◌*◌, ◌/◌, ◌^◌, ◌<◌, ◌≤◌, ◌⊎◌, Bool, true, false, ◌&&◌, ◌||◌, ◌==◌, List, [], ◌∷◌, ◌++◌, Option, Some, None, length, take, drop, replicate, refl, sym, ap, subst, ◌∙◌, append_assoc, inl, inr, ⊎_elim, arith, eq-eqb}
-use Rattle.std.specs.Prelude.{fold, slice_set, nat_le, nat_lt, not, if◌then◌else◌}
-use Rattle.std.specs.List.{list_any, AllByRecursion}
-use Rattle.std.specs.Str.{bytes_eq}
-use Rattle.std.proofs.lemmas.Bool.{and_parts, and_from, and_left, both_ways, leb-true, ltb-true, not-true, or_left, or_right, ne_eqb, cases_lt}
-use Rattle.std.proofs.lemmas.List.{append-nil, length-set, length-take, length-drop, take-append-drop, get_or-replicate, get_or_past, length-replicate}
+use Rattle.std.proofs.Common.{◌≡◌, ◌≢◌, ℕ, zero, suc, ◌^◌, ◌<◌, ◌≤◌, ◌⊎◌, Bool, true, false, ◌&&◌, ◌==◌, List, [], ◌∷◌, ◌++◌, Option, Some, None, length, take, drop, replicate, refl, sym, ap, subst, ◌∙◌, append_assoc, inl, inr, ⊎_elim, arith, eqb, eq-eqb, eqb-true}
+use Rattle.std.specs.Prelude.{fold, nat_le, nat_lt, not, if◌then◌else◌}
+use Rattle.std.specs.List.{list_any, AllByRecursion, IsDistinct}
+use Rattle.std.proofs.lemmas.Bool.{and_parts, and_from, and_left, both_ways, leb-true, ltb-true, not-true, or_left, or_right, or_cases, ne_eqb, cases_lt}
+use Rattle.std.proofs.lemmas.List.{append-nil, length-set, length-take, length-drop, take-append-drop, get_or-replicate, get_or_past}
 use Rattle.std.proofs.lemmas.List.Folds.{list_any-append}
 use Rattle.std.proofs.lemmas.List.Sums.{fold-append}
 use Rattle.std.proofs.lemmas.Slice.Eq.{bytes_eq-Decides}
+use Rattle.std.proofs.lemmas.Map.Steps.{length-le_from_distinct_below}
 use Rattle.sha2.specs.Sha256.{sha256}
 use Rattle.ddt_entry.specs.Bytes.{AreBytes}
 use Rattle.disk_model.specs.Images.{Image, sector_at}
 use Rattle.disk_model.proofs.Sectors.{sector_at-set, sector_at-set_other}
 use Rattle.page_tree.specs.Pointers.{FitsPointer, null_pointer}
-use Rattle.page_tree.specs.Chains.{ChainPage, FitsPage, PageWrite, Chain, Walked, HoldsWrites, AreOpen, SameBut, record_len, page_records, pages_for, is_null, is_open_to, is_chain_page, chain_page_bytes, chain_page_in, holds_page, behind_records, walk, chain_in, pointer_or_null, page_before, write_page, chained, chain_of}
+use Rattle.page_tree.specs.Chains.{ChainPage, FitsPage, PageWrite, Chain, Walked, HoldsWrites, AreOpen, SameBut, record_len, page_records, pages_for, is_null, is_open_to, is_chain_page, chain_page_bytes, chain_page_in, holds_page, behind_records, walk, chain_in, pointer_or_null, page_before, write_page, chain_of}
 use Rattle.page_tree.specs.declared.pointer.PagePtr.{PagePtr}
 use Rattle.page_tree.proofs.ChainLaws.{chain_page_in-chain_page_bytes, is_chain_page-chain_page_bytes}
 use Rattle.page_tree.proofs.Digests.{length-sha256, AreBytes-sha256}
@@ -81,6 +81,34 @@ open_places-below sectors limit named [] within all = tt
 open_places-below sectors limit named (place ∷ places) within all =
     let here = (is_open-parts sectors named place all.0).below in
     (omega arith, open_places-below sectors limit (named ++ place ∷ []) places within all.1)
+
+-- none is another
+open_places-distinct : (sectors : ℕ) (named places : List ℕ) → AreOpen sectors named places → IsDistinct eqb places
+unfolding IsDistinct
+open_places-distinct sectors named [] all = tt
+open_places-distinct sectors named (place ∷ places) all = (
+  all_mapped (λ other. other ≢ place) (λ other. eqb place other ≡ false) (λ other apart. ne_eqb place other (λ same. apart (sym same))) places (apart_from_first sectors named place places all.1),
+  open_places-distinct sectors (named ++ place ∷ []) places all.1,
+)
+
+-- what holds of each number of a list holds of one that is found there
+found_below : (limit : ℕ) (numbers : List ℕ) (number : ℕ) → AllByRecursion (λ n. n < limit) numbers → list_any (eqb number) numbers ≡ true → number < limit
+found_below limit [] number all found = absurd (cc found)
+found_below limit (first ∷ numbers) number all found =
+    ⊎_elim (λ here. subst (λ n. n < limit) (sym (eqb-true number first here)) all.0) (λ behind. found_below limit numbers number all.1 behind) (or_cases (eqb number first) (list_any (eqb number) numbers) found)
+
+-- so they are fewer than the sectors of the disk, of which the first is none of them
+pub open_places-fewer : (sectors : ℕ) (named places : List ℕ) → 0 < sectors → AreOpen sectors named places → length places < sectors
+unfolding IsDistinct
+open_places-fewer sectors named places some all =
+    let count = length-le_from_distinct_below (0 ∷ places) sectors (not_first named places all, open_places-distinct sectors named places all) (λ number. found_below sectors (0 ∷ places) number (some, open_places-below sectors sectors named places (omega arith) all)) in
+    omega (arith, count)
+  where
+    not_first : (ns ps : List ℕ) → AreOpen sectors ns ps → AllByRecursion (λ place. eqb 0 place ≡ false) ps
+    not_first ns [] all_open = tt
+    not_first ns (place ∷ ps) all_open =
+        let here = (is_open-parts sectors ns place all_open.0).from in
+        (ne_eqb 0 place (λ same. omega (arith, same, here)), not_first (ns ++ place ∷ []) ps all_open.1)
 
 -- ---- what the writes of a chain leave
 
@@ -239,7 +267,7 @@ chain_is_walked (suc most) image sectors named (place ∷ places) records steps 
     there = parts.1.0
 
 -- a chain that an image holds is read back from its root
-pub chain_is_read_back : (image : Image) (sectors : ℕ) (named places : List ℕ) (records : List (List ℕ)) → length places < sectors → length places ≡ pages_for (length records) → AllByRecursion (λ bytes. length bytes ≡ record_len) records
+pub chain_is_read_back : (image : Image) (sectors : ℕ) (named places : List ℕ) (records : List (List ℕ)) → 0 < sectors → length places ≡ pages_for (length records) → AllByRecursion (λ bytes. length bytes ≡ record_len) records
     → AreOpen sectors named places → sectors ≤ 2 ^ 64 → HoldsWrites image (chain_of places records).writes
     → chain_in image sectors named (chain_of places records).root ≡ Some (record { named = named ++ places; records = records })
-chain_is_read_back image sectors named places records = chain_is_walked sectors image sectors named places records
+chain_is_read_back image sectors named places records some pages whole all_open = chain_is_walked sectors image sectors named places records (open_places-fewer sectors named places some all_open) pages whole all_open

@@ -75,7 +75,7 @@ pub fn write_chain<D: Disk>(
 pub fn chain_is_read_back()
     ensures held { (image : Image) (sectors : ℕ) (named places : List ℕ) (records : List (List ℕ)) → AreOpen sectors named places → sectors ≤ length image
         → HoldsWrites (fold write_page image (chain_of places records).writes) (chain_of places records).writes }
-    ensures back { (image : Image) (sectors : ℕ) (named places : List ℕ) (records : List (List ℕ)) → length places < sectors → length places ≡ pages_for (length records)
+    ensures back { (image : Image) (sectors : ℕ) (named places : List ℕ) (records : List (List ℕ)) → 0 < sectors → length places ≡ pages_for (length records)
         → AllByRecursion (λ bytes. length bytes ≡ record_len) records → AreOpen sectors named places → sectors ≤ 2 ^ 64 → HoldsWrites image (chain_of places records).writes
         → chain_in image sectors named (chain_of places records).root ≡ Some (record { named = named ++ places; records = records }) }
 {}
