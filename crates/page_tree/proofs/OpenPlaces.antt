@@ -48,7 +48,7 @@ open_places-below sectors limit named (place ∷ places) within all =
     (omega arith, open_places-below sectors limit (named ++ place ∷ []) places within all.1)
 
 -- none is another
-open_places-distinct : (sectors : ℕ) (named places : List ℕ) → AreOpen sectors named places → IsDistinct eqb places
+pub open_places-distinct : (sectors : ℕ) (named places : List ℕ) → AreOpen sectors named places → IsDistinct eqb places
 unfolding IsDistinct
 open_places-distinct sectors named [] all = tt
 open_places-distinct sectors named (place ∷ places) all = (
