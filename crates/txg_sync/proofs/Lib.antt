@@ -3,3 +3,4 @@ pub mod Beginnings
 pub mod Sealing
 pub mod Storing
 pub mod Parts
+pub mod Filling

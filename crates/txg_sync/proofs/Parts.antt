@@ -9,32 +9,21 @@ use Rattle.std.proofs.lemmas.List.{append-nil, take_more, drop_more, map-append,
 use Rattle.std.proofs.lemmas.List.Folds.{list_any-append}
 use Rattle.disk_model.specs.Images.{Image, TellsImage}
 use Rattle.page_tree.specs.Chains.{HoldsWrites, AreOpen, SameBut, MayTouchAll, ChainLeaves, Written, PageWrite, is_open_to, chain_of, write_page, pointer_or_null}
-use Rattle.page_tree.proofs.ChainBack.{writes_are_held, writes_behind_others, open_places-below}
+use Rattle.page_tree.proofs.ChainBack.{writes_are_held, writes_behind_others}
+use Rattle.page_tree.proofs.OpenPlaces.{is_open-parts, open_places-below, open_places-parts}
 use Rattle.page_tree.specs.declared.pointer.PagePtr.{PagePtr}
 use Rattle.table_state.specs.Sealed.{ChainPart, part_chain, places_in, roots_of, HoldsParts}
 use Rattle.table_state.proofs.Lists.{all_front, all_back}
 use Rattle.txg_sync.specs.Writing.{HoldsSince}
 
--- ---- Places that are open, in two parts
+-- ---- Places that are open
 
-pub open_front : (sectors : ℕ) (named a b : List ℕ) → AreOpen sectors named (a ++ b) → AreOpen sectors named a
-open_front sectors named [] b all = tt
-open_front sectors named (place ∷ a) b all = (all.0, open_front sectors (named ++ place ∷ []) a b all.1)
-
-pub open_back : (sectors : ℕ) (named a b : List ℕ) → AreOpen sectors named (a ++ b) → AreOpen sectors (named ++ a) b
-open_back sectors named [] b all = subst (λ (n : List ℕ). AreOpen sectors n b) (sym (append-nil named)) all
-open_back sectors named (place ∷ a) b all = subst (λ (n : List ℕ). AreOpen sectors n b) (append_assoc named (place ∷ []) a) (open_back sectors (named ++ place ∷ []) a b all.1)
-
--- none of them is named
-fresh_place : (sectors : ℕ) (named : List ℕ) (place : ℕ) → is_open_to sectors named place ≡ true → list_any (λ other. other == place) named ≡ false
-fresh_place sectors named place is_open = not-true _ (and_parts (nat_le 32 place && nat_lt place sectors) (not (list_any (λ other. other == place) named)) is_open).1
-
--- so a sector that is named is none of them
+-- a sector that is named is none of the places that are open
 pub apart_from_open : (sectors : ℕ) (named places : List ℕ) (sector : ℕ) → list_any (λ other. other == sector) named ≡ true → AreOpen sectors named places → list_any (λ place. place == sector) places ≡ false
 apart_from_open sectors named [] sector found all = refl
 apart_from_open sectors named (place ∷ places) sector found all =
     ⊎_elim
-    (λ same. absurd (clash (sym (subst (λ s. list_any (λ other. other == s) named ≡ true) (sym same.1) found) ∙ fresh_place sectors named place all.0)))
+    (λ same. absurd (clash (sym (subst (λ s. list_any (λ other. other == s) named ≡ true) (sym same.1) found) ∙ (is_open-parts sectors named place all.0).fresh)))
     (λ other. ap (λ b. b || list_any (λ p. p == sector) places) other.0 ∙ apart_from_open sectors (named ++ place ∷ []) places sector (list_any-append (λ o. o == sector) named (place ∷ []) ∙ or_left _ _ found) all.1)
     (eqb_tells place sector)
   where
@@ -82,10 +71,10 @@ module _ (parts : List ChainPart) (i : ℕ) (part : ChainPart) (inside : i < len
 
   module _ (sectors : ℕ) (all : AreOpen sectors [] (places_in parts)) where
     so_far : AreOpen sectors [] (places_in (take i parts) ++ part.places)
-    so_far = open_front sectors [] (places_in (take i parts) ++ part.places) (places_in (drop (i + 1) parts)) (subst (λ (ps : List ℕ). AreOpen sectors [] ps) all_places all)
+    so_far = (open_places-parts sectors [] (places_in (take i parts) ++ part.places) (places_in (drop (i + 1) parts)) (subst (λ (ps : List ℕ). AreOpen sectors [] ps) all_places all)).0
 
     own : AreOpen sectors (places_in (take i parts)) part.places
-    own = open_back sectors [] (places_in (take i parts)) part.places so_far
+    own = (open_places-parts sectors [] (places_in (take i parts)) part.places so_far).1
 
     pub part_below : AllByRecursion (λ place. place < sectors) part.places
     part_below = open_places-below sectors sectors (places_in (take i parts)) part.places (omega arith) own
@@ -109,7 +98,7 @@ module _ (parts : List ChainPart) (i : ℕ) (part : ChainPart) (inside : i < len
         (first.0, first.1, record { count = wider.count ∙ first.2.count; others = λ at none. wider.others at none ∙ first.2.others at none })
 
     pub part_touched : (old mid new : Option Image) → MayTouchAll old mid (places_in parts) → MayTouchAll mid new part.places → MayTouchAll old new (places_in parts)
-    part_touched None mid new so_far touch = tt
+    part_touched None mid new first touch = tt
     part_touched (Some image) mid new first touch =
         let now : MayTouchAll (Some first.0) new part.places = subst (λ (m : Option Image). MayTouchAll m new part.places) first.1 touch in
         let wider = only_wider first.0 now.0 now.2 in
@@ -140,8 +129,8 @@ module _ (parts : List ChainPart) (i : ℕ) (part : ChainPart) (inside : i < len
 
     -- the pointer to its first page stands behind those before it
     pub root_set : (initial pointers : List PagePtr) (root : Option PagePtr) → length parts ≤ length initial → pointers ≡ roots_of (take i parts) ++ drop i initial → root ≡ (part_chain part).root → slice_set pointers i (pointer_or_null root) ≡ roots_of (take (i + 1) parts) ++ drop (i + 1) initial
-    root_set initial pointers root enough so_far_is is_root =
-        ap (λ (ps : List PagePtr). slice_set ps i (pointer_or_null root)) (so_far_is ∙ ap (λ (ps : List PagePtr). roots_of (take i parts) ++ ps) (drop_more initial i (pointer_or_null root) (omega (arith, inside, enough))))
+    root_set initial pointers root enough before is_root =
+        ap (λ (ps : List PagePtr). slice_set ps i (pointer_or_null root)) (before ∙ ap (λ (ps : List PagePtr). roots_of (take i parts) ++ ps) (drop_more initial i (pointer_or_null root) (omega (arith, inside, enough))))
         ∙ set-append_right (roots_of (take i parts)) (get_or initial i (pointer_or_null root) ∷ drop (i + 1) initial) i i (pointer_or_null root) count (omega arith)
         ∙ ap (λ n. roots_of (take i parts) ++ slice_set (get_or initial i (pointer_or_null root) ∷ drop (i + 1) initial) n (pointer_or_null root)) zero_left
         ∙ sym (append_assoc (roots_of (take i parts)) (pointer_or_null root ∷ []) (drop (i + 1) initial))
