@@ -4,3 +4,4 @@ pub mod Sealing
 pub mod Storing
 pub mod Parts
 pub mod Filling
+pub mod Stored

@@ -115,13 +115,12 @@ module _ (parts : List ChainPart) (i : ℕ) (part : ChainPart) (inside : i < len
         let is_new : new ≡ Some c = subst (λ (m : Option Image). Written m new (part_chain part).writes) held.1 written in
         let touched : MayTouchAll (Some d) new part.places = subst (λ (m : Option Image). MayTouchAll m new part.places) held.1 touch in
         let same_c : touched.0 ≡ c = same_some touched.0 c (sym touched.1 ∙ is_new) in
-        let same : SameBut part.places d c = subst (λ (x : Image). SameBut part.places d x) same_c touched.2 in
-        (
+        let same : SameBut part.places d c = subst (λ (x : Image). SameBut part.places d x) same_c touched.2 in (
           c,
           is_new,
           subst (λ (ps : List ChainPart). HoldsParts c ps) (sym next_parts)
-          (held_one_more (take i parts) part c (held_before (take i parts) part.places d c (named_apart sectors (places_in (take i parts)) part.places own) same held.2)
-          (writes_are_held d sectors (places_in (take i parts)) part.places part.records own large)),
+              (held_one_more (take i parts) part c (held_before (take i parts) part.places d c (named_apart sectors (places_in (take i parts)) part.places own) same held.2)
+              (writes_are_held d sectors (places_in (take i parts)) part.places part.records own large)),
         )
       where
         same_some : (a b : Image) → Some a ≡ Some b → a ≡ b

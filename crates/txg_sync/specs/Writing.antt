@@ -2,6 +2,7 @@
 use Rattle.std.specs.Prelude.{◌≡◌, ◌≢◌, ◌+◌, ◌⊎◌, ◌≤◌, ⊤, ℕ, ◌==◌, false, List, ◌∷◌, [], ◌++◌, length, map, Option, Some, None}
 use Rattle.std.specs.List.{list_any}
 use Rattle.disk_model.specs.Images.{Image, sector_at}
+use Rattle.page_tree.specs.Chains.{SameBut}
 use Rattle.page_tree.specs.Pointers.{null_pointer}
 use Rattle.uber_ring.specs.Ring.{gate_sector, body_sector, newest}
 use Rattle.uber_ring.specs.declared.seal.Seal.{Seal}
@@ -33,7 +34,7 @@ SameBeside places image c = (at : ℕ) → list_any (λ place. place == at) plac
 
 -- blocks and pages are in their places
 pub record IsStored (contents : List Stored) (parts : List ChainPart) (image c : Image) : Type 0 where
-  pub count : length c ≡ length image
+  pub only : SameBut (group_places contents parts) image c
   pub held : HoldsParts c parts
   pub beside : SameBeside (places_in parts) (with_blocks contents image) c
 

@@ -6,7 +6,7 @@ ghost use Rattle.page_tree.specs.Chains.{pages_for, AreOpen, MayTouchAll, ChainL
 ghost use Rattle.pool_model.specs.Plain.{stored_of};
 ghost use Rattle.table_state.specs.Pools.{block_sector};
 ghost use Rattle.table_state.specs.Sealed.{places_in, roots_of};
-ghost use Rattle.txg_sync.specs.Writing.{block_places, Stores, HoldsSince};
+ghost use Rattle.txg_sync.specs.Writing.{block_places, group_places, Stores, HoldsSince, StoresParts};
 
 use crate::part::ChainPages;
 use arrayvec::ArrayVec;
@@ -76,4 +76,31 @@ pub fn write_parts<D: Disk>(
         crash_laws(disk);
     }
     Ok(())
+}
+
+/// Writes the blocks and the chains of a group, with no barrier behind them, and puts the pointers to the
+/// chains' first pages into `pointers`, from its front. Takes no memory.
+pub fn store_group<D: Disk>(
+    disk: &mut D,
+    contents: &[StoredBlock],
+    parts: &[ChainPages],
+    pointers: &mut [PagePtr; 6],
+) -> Result<(), Failed>
+    requires within { All (λ stored. stored.place < D.sectors_of disk.old) contents.now }
+    requires lengths { All (λ stored. length stored.block.items ≤ 4096) contents.now }
+    requires few { length parts.now ≤ 6 }
+    requires pages { All (λ part. length part.places ≡ pages_for (length part.records)) parts.now }
+    requires places { AreOpen (D.sectors_of disk.old) [] (places_in parts.now) }
+    ensures sectors { D.sectors_of disk.new ≡ D.sectors_of disk.old }
+    ensures stored { OnOk result (StoresParts (map stored_of contents.now) parts.now (D.seen disk.old) (D.seen disk.new)) }
+    ensures roots { OnOk result (pointers.new ≡ roots_of parts.now ++ drop (length parts.now) pointers.old) }
+    ensures touched { MayTouchAll (D.seen disk.old) (D.seen disk.new) (group_places (map stored_of contents.now) parts.now) }
+    ensures any_moment { LeavesOnly D.clock D.left_since disk.old disk.new
+        (ChainLeaves (group_places (map stored_of contents.now) parts.now) (D.may_leave disk.old)) }
+    ensures reads { D.read_faults disk.old ≤ D.read_faults disk.new }
+    ensures cause { HasCause (D.write_faults disk.old) (D.write_faults disk.new) result }
+{
+    write_blocks(disk, contents)?;
+    crash_laws(disk);
+    write_parts(disk, parts, pointers)
 }

@@ -51,10 +51,10 @@ chains-preserved g c =
     let leaves = part_leaves c.args.parts.now c.chains.i part c.chains-test.true c.index-parts-i.is sectors c.requires.places (g.D.Disk.may_leave c.args.disk.now) (g.D.Disk.may_leave c.chains.disk) c.chains.invariant.5 in
     let touched = subst (λ (ps : List ℕ). MayTouchAll (g.D.Disk.seen c.chains.disk) (g.D.Disk.seen c.write_chain.new.disk) ps) places c.write_chain.ensures.touched in
     let written = subst (λ (rs : List (List ℕ)). Written (g.D.Disk.seen c.chains.disk) (g.D.Disk.seen c.write_chain.new.disk) (chain_of part.places rs).writes) records
-        (subst (λ (ps : List ℕ). Written (g.D.Disk.seen c.chains.disk) (g.D.Disk.seen c.write_chain.new.disk) (chain_of ps c.as_slice.result.now).writes) places c.in_ok-root.ensures.written) in
+    (subst (λ (ps : List ℕ). Written (g.D.Disk.seen c.chains.disk) (g.D.Disk.seen c.write_chain.new.disk) (chain_of ps c.as_slice.result.now).writes) places c.in_ok-root.ensures.written) in
     let root : c.in_ok-root.root ≡ (chain_of part.places part.records).root = c.in_ok-root.ensures.root ∙ ap (λ (ps : List ℕ). (chain_of ps c.as_slice.result.now).root) places ∙ ap (λ (rs : List (List ℕ)). (chain_of part.places rs).root) records in
     let all = and_then g.D.Disk.clock g.D.Disk.left_since c.args.disk.now c.chains.disk c.write_chain.new.disk P c.chains.invariant.4
-        (weakened g.D.Disk.clock g.D.Disk.left_since c.chains.disk c.write_chain.new.disk _ P c.write_chain.ensures.any_moment (λ c' from. leaves c' (subst (λ (ps : List ℕ). ChainLeaves ps (g.D.Disk.may_leave c.chains.disk) c') places from))) in (
+    (weakened g.D.Disk.clock g.D.Disk.left_since c.chains.disk c.write_chain.new.disk _ P c.write_chain.ensures.any_moment (λ c' from. leaves c' (subst (λ (ps : List ℕ). ChainLeaves ps (g.D.Disk.may_leave c.chains.disk) c') places from))) in (
       c.write_chain.ensures.sectors ∙ c.chains.invariant.0,
       part_held c.args.parts.now c.chains.i part c.chains-test.true c.index-parts-i.is sectors c.requires.places _ _ _ tells c.chains.invariant.3 c.chains.invariant.1 touched written,
       ap (λ (r : PagePtr). slice_set c.chains.pointers c.chains.i r) (c.unwrap_or.ensures ∙ unwrapped c.in_ok-root.root) ∙ root_set c.args.parts.now c.chains.i part c.chains-test.true c.index-parts-i.is sectors c.requires.places c.args.pointers.now c.chains.pointers c.in_ok-root.root (omega (arith, c.requires.few, c.told-pointers)) c.chains.invariant.2 root,
