@@ -2,3 +2,4 @@ pub mod Created
 pub mod FlatLaws
 pub mod Kept
 pub mod SlotLaws
+pub mod Spelled

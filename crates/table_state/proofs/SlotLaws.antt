@@ -111,7 +111,7 @@ each_of a b c d e f g all =
     let to_a = and_parts a b to_b.0 in
     (to_a.0, to_a.1, to_b.1, to_c.1, to_d.1, to_e.1, to_f.1)
 
-is_slot-from : (sectors group : ℕ) (h : SlotRecord) → is_slot sectors group h ≡ true → IsSlot sectors group h
+pub is_slot-from : (sectors group : ℕ) (h : SlotRecord) → is_slot sectors group h ≡ true → IsSlot sectors group h
 is_slot-from sectors group h e =
     let each = each_of (leb h.lane 15) (leb h.slot 65_535) (leb 1 h.pointer.key.len && leb h.pointer.key.len 4_096) (leb 32 h.pointer.place) (ltb h.pointer.place sectors) (leb 1 h.pointer.birth) (leb h.pointer.birth group) e in
     let len = and_parts (leb 1 h.pointer.key.len) (leb h.pointer.key.len 4_096) each.2 in

@@ -2,7 +2,7 @@
 use Rattle.std.specs.Prelude.{◌≡◌, ℕ, ◌≤◌, ◌<◌, Bool, true, List, [], ◌∷◌, ◌++◌, length, map, replicate, sum_by, Option, Some, None}
 use Rattle.std.specs.List.{AllByRecursion, flat_map}
 use Rattle.ddt_entry.specs.Changes.{key_in}
-use Rattle.ddt_entry.specs.Records.{record_bytes, Fits as ChangeFits}
+use Rattle.ddt_entry.specs.Records.{record_bytes, IsKeyLength, Fits as ChangeFits}
 use Rattle.ddt_entry.specs.declared.key.Key.{Key}
 use Rattle.ddt_entry.specs.declared.entry.Entry.{Entry}
 use Rattle.ddt_entry.specs.declared.entry.Change.TheVariants as changes
@@ -111,6 +111,9 @@ pub record CanBeKept (sectors group : ℕ) (slots : List SlotRecord) (table : Ta
   pub zap_fits : AllByRecursion (λ entry. ChangeFits (changes.Entry entry)) table.zap
   pub flush_fits : AllByRecursion ChangeFits table.flush
   pub active_fits : AllByRecursion ChangeFits table.active
+  pub zap_lengths : AllByRecursion (λ entry. IsKeyLength entry.key.len) table.zap
+  pub flush_lengths : AllByRecursion (λ change. IsKeyLength (key_in change).len) table.flush
+  pub active_lengths : AllByRecursion (λ change. IsKeyLength (key_in change).len) table.active
   pub checkpoint : table.flush ≡ [] → table.checkpoint ≡ None
 
 -- the pool and the table that an image has to stand for, and no block in a page's sector
