@@ -3,3 +3,4 @@ pub mod FlatLaws
 pub mod Kept
 pub mod SlotLaws
 pub mod Spelled
+pub mod SealBack

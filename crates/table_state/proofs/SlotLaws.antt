@@ -198,7 +198,7 @@ was_written sectors group bytes h fits long e =
       found.1.2,
     )
 
-AreBytes-replicate : (n : ℕ) → AreBytes (replicate n 0)
+pub AreBytes-replicate : (n : ℕ) → AreBytes (replicate n 0)
 AreBytes-replicate zero i = omega arith
 AreBytes-replicate (suc n) zero = omega arith
 AreBytes-replicate (suc n) (suc i) = AreBytes-replicate n i
