@@ -4,3 +4,4 @@ pub mod Kept
 pub mod SlotLaws
 pub mod Spelled
 pub mod SealBack
+pub mod SlotsAfter

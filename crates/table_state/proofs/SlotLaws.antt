@@ -94,7 +94,7 @@ kind_back h rest fits =
 seven : (a b c d e f g : Bool) → a ≡ true → b ≡ true → c ≡ true → d ≡ true → e ≡ true → f ≡ true → g ≡ true → a && b && c && d && e && f && g ≡ true
 seven a b c d e f g ha hb hc hd he hf hg = rw (ha, hb, hc, hd, he, hf, hg) refl
 
-is_slot-true : (sectors group : ℕ) (h : SlotRecord) → IsSlot sectors group h → is_slot sectors group h ≡ true
+pub is_slot-true : (sectors group : ℕ) (h : SlotRecord) → IsSlot sectors group h → is_slot sectors group h ≡ true
 is_slot-true sectors group h is =
     let len : leb 1 h.pointer.key.len && leb h.pointer.key.len 4_096 ≡ true = and_from (leb 1 h.pointer.key.len) (leb h.pointer.key.len 4_096) (le-leb 1 h.pointer.key.len is.len.0) (le-leb h.pointer.key.len 4_096 is.len.1) in
     seven (leb h.lane 15) (leb h.slot 65_535) (leb 1 h.pointer.key.len && leb h.pointer.key.len 4_096) (leb 32 h.pointer.place) (ltb h.pointer.place sectors) (leb 1 h.pointer.birth) (leb h.pointer.birth group)
