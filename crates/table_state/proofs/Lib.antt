@@ -5,3 +5,4 @@ pub mod SlotLaws
 pub mod Spelled
 pub mod SealBack
 pub mod SlotsAfter
+pub mod Stands

@@ -144,3 +144,10 @@ pub record AreParts (sectors : ℕ) (slots : List SlotRecord) (table : TableStat
 -- the blocks of these slots stand in an image as they stand in another
 abbrev pub SameBlocks : (image c : Image) → List SlotRecord → Type 0
 SameBlocks image c slots = AllByRecursion (λ slot. sector_at c slot.pointer.place ≡ sector_at image slot.pointer.place) slots
+
+-- an image after a group's sync: the group's seal counts, its chains are there, and the blocks of its slots stand as in the old image with the group's blocks
+pub record IsSealedImage (tag sectors group : ℕ) (image c : Image) (slots : List SlotRecord) (table : TableState) (modes : List Mode) (quota : Option ℕ) (contents : List Stored) (parts : List ChainPart) : Type 0 where
+  pub counts : newest flat_version c ≡ Some (seal_of tag sectors group modes quota table (roots_of parts) (length (places_in parts)))
+  pub there : sectors ≤ length c
+  pub held : HoldsParts c parts
+  pub blocks : SameBlocks (with_blocks contents image) c slots
