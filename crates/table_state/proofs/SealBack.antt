@@ -1,6 +1,6 @@
 -- The seal of a group has the form of one, says what it was made of, and fits its body.
-use Rattle.std.proofs.Common.{◌≡◌, ℕ, zero, suc, ◌+◌, ◌-◌, ◌^◌, ◌<◌, ◌≤◌, Bool, true, false, ◌&&◌, ◌||◌, ◌==◌, List, [], ◌∷◌, ◌++◌, Option, Some, None, map, length, refl, sym, ap, ◌∙◌, arith, eq-eqb}
-use Rattle.std.specs.Prelude.{nat_le, nat_lt, slice_index, sum_by, replicate, if◌then◌else◌, IfSome}
+use Rattle.std.proofs.Common.{◌≡◌, ℕ, zero, suc, ◌^◌, ◌<◌, ◌≤◌, true, ◌||◌, ◌==◌, List, [], ◌∷◌, ◌++◌, Option, Some, None, map, length, refl, ap, ◌∙◌, arith, eq-eqb}
+use Rattle.std.specs.Prelude.{nat_le, nat_lt, sum_by, if◌then◌else◌, IfSome}
 use Rattle.std.specs.List.{AllByRecursion, list_all}
 use Rattle.std.proofs.lemmas.Bool.{and_from}
 use Rattle.std.proofs.lemmas.Bool.Decides.{nat_tests}
@@ -16,7 +16,7 @@ use Rattle.uber_ring.specs.declared.seal.Seal.{Seal}
 use Rattle.pool_model.specs.declared.commands.Mode.{Mode}
 use Rattle.pool_model.specs.declared.commands.Mode.TheVariants.{Off, On, Verify}
 use Rattle.pool_model.specs.Table.{TableState}
-use Rattle.table_state.specs.SealForms.{fewest_sectors, most_sectors, last_group, is_flag, has_group, has_size, has_flags, has_modes, has_checkpoint, is_formed, mode_in, mode_byte, modes_in, quota_in, checkpoint_in, slots_root, unique_root, duplicate_root, active_root, flushing_root}
+use Rattle.table_state.specs.SealForms.{fewest_sectors, most_sectors, last_group, is_flag, has_group, has_size, has_flags, is_formed, mode_in, mode_byte, modes_in, quota_in, checkpoint_in, slots_root, unique_root, duplicate_root, active_root, flushing_root}
 use Rattle.table_state.specs.Flat.{counted_homes}
 use Rattle.table_state.specs.Sealed.{seal_of, flag_of, quota_number, checkpoint_len, checkpoint_digest}
 use Rattle.table_state.proofs.SlotLaws.{AreBytes-replicate}

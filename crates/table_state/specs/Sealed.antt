@@ -1,5 +1,5 @@
 -- What a group's sync writes: the records of the five chains, and the seal.
-use Rattle.std.specs.Prelude.{◌≡◌, ℕ, ◌≤◌, ◌<◌, Bool, true, List, [], ◌∷◌, ◌++◌, length, map, replicate, sum_by, Option, Some, None, IfSome}
+use Rattle.std.specs.Prelude.{◌≡◌, ℕ, ◌≤◌, true, List, [], ◌∷◌, ◌++◌, length, map, replicate, sum_by, Option, Some, None, IfSome}
 use Rattle.std.specs.List.{AllByRecursion, flat_map}
 use Rattle.ddt_entry.specs.Changes.{key_in}
 use Rattle.ddt_entry.specs.Records.{record_bytes, IsKeyLength, Fits as ChangeFits}
@@ -22,7 +22,7 @@ use Rattle.table_state.specs.SealForms.{mode_byte, fewest_sectors, most_sectors,
 use Rattle.table_state.specs.SlotRecords.{slot_bytes, is_slot, FitsSlot}
 use Rattle.table_state.specs.Flat.{Flat, flat_version, counted_homes, stands_before, IsClear}
 use Rattle.table_state.specs.Tables.{IsTable, IsTableWithin, unique_in, duplicate_in}
-use Rattle.table_state.specs.Pools.{with_blocks, pool_after}
+use Rattle.table_state.specs.Pools.{with_blocks}
 use Rattle.table_state.specs.declared.slot_record.SlotRecord.{SlotRecord}
 
 -- a chain that is to be written: its records, and a place for each page
