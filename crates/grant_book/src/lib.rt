@@ -1,10 +1,21 @@
-//! Which sectors of a pool are used.
+//! Which sectors of a pool are used, and where a writer may put its pages and blocks.
+//!
+//! A `SectorSet` notes for each sector whether it is used. Who marks a sector, and when it may be let
+//! go, is the affair of the crates above; here stands only that a place that is given out was free.
+//! `free_places` gives the first free sectors in rising order, as many as were wanted, or says that
+//! there are fewer. It marks none of them.
 #![tactic(auto)]
 
-ghost use Rattle.std.specs.Prelude.{◌≡◌, ◌<◌, IfOk, false, length, replicate, slice_index_or, slice_set};
+ghost use Rattle.std.specs.Prelude.{◌≡◌, ◌+◌, ◌<◌, ◌≤◌, ◌++◌, false, not, length, drop, replicate, slice_index_or, slice_set, IfOk};
+ghost use Rattle.std.specs.List.{count_by};
+ghost use Rattle.grant_book.specs.Sectors.{free_from, FindsFree};
 
+use reserved_list::ReservedList;
 use std::alloc::{AllocError, Global};
 use std::marker::Model;
+
+/// Places on a disk, by their sectors.
+pub type PlaceList = ReservedList<u64>;
 
 /// For each sector of a pool whether it is used.
 #[derive(Drop)]
@@ -13,7 +24,7 @@ pub struct SectorSet {
 }
 
 impl Model for SectorSet {
-    ghost use Rattle.std.specs.Prelude.{List, Bool};
+    ghost use Rattle.std.specs.Prelude.{Bool, List};
 
     ghost Value = { List Bool };
 
@@ -21,13 +32,19 @@ impl Model for SectorSet {
 }
 
 impl SectorSet {
-    /// So many sectors, none of which is used. The error is want of memory.
-    pub fn new(alloc: Global, sectors: u64) -> Result<SectorSet, AllocError>
+    /// A pool of so many sectors, none of which is used.
+    pub fn new(alloc: Global, sectors: u64) -> Result<Self, AllocError>
         ensures { IfOk result (λ set. set ≡ replicate sectors false) }
     {
-        let mut used = Vec::new(alloc);
-        used.resize(sectors as usize, false)?;
+        let used = vec![in alloc; false; sectors as usize]?;
         Ok(SectorSet { used })
+    }
+
+    /// How many sectors the pool has.
+    pub fn len(&self) -> u64
+        ensures { result ≡ length self.now }
+    {
+        self.used.len() as u64
     }
 
     /// Whether a sector is used.
@@ -38,7 +55,7 @@ impl SectorSet {
         self.used[sector as usize]
     }
 
-    /// Says of a sector whether it is used from now on.
+    /// Notes of a sector whether it is used.
     pub fn set(&mut self, sector: u64, used: bool)
         requires { sector < length self.old }
         ensures { self.new ≡ slice_set self.old sector used }
@@ -46,10 +63,113 @@ impl SectorSet {
         self.used[sector as usize] = used;
     }
 
-    /// How many sectors there are.
-    pub fn len(&self) -> u64
-        ensures { result ≡ length self.now }
+    /// How many sectors aren't used.
+    pub fn free(&self) -> u64
+        ensures { result ≡ count_by not self.now }
     {
-        self.used.len() as u64
+        let mut count = 0;
+        'sectors: for used in &self.used {
+            if !*used {
+                count += 1;
+            }
+        }
+        count
+    }
+
+    /// Puts a sector behind the places that were found, where it isn't used.
+    fn put_free(&self, places: &mut PlaceList, sector: u64)
+        requires within { sector < length self.now }
+        requires room { 0 < places.old.spare }
+        ensures found { places.new.items ++ free_from (sector + 1) (drop (sector + 1) self.now) ≡ places.old.items ++ free_from sector (drop sector self.now) }
+        ensures few { length places.new.items ≤ length places.old.items + 1 }
+        ensures left { length places.new.items + places.new.spare ≡ length places.old.items + places.old.spare }
+    {
+        if !self.has(sector) {
+            places.push(sector);
+        }
+    }
+
+    /// The first sectors that aren't used, in rising order, as many as are wanted; `None` where there are
+    /// fewer. The error is want of memory.
+    pub fn free_places(&self, alloc: Global, wanted: u64) -> Result<Option<PlaceList>, AllocError>
+        ensures { IfOk result (FindsFree self.now wanted) }
+    {
+        if self.free() < wanted {
+            return Ok(None);
+        }
+        let mut places = PlaceList::new(alloc);
+        places.reserve(wanted)?;
+        'search: for sector in 0..self.len() {
+            if places.len() == wanted {
+                return Ok(Some(places));
+            }
+            self.put_free(&mut places, sector);
+        }
+        Ok(Some(places))
+    }
+}
+
+#[cfg(test)]
+mod tests {
+    use super::*;
+    use std::process::Abort;
+    use std::test::Fail;
+
+    #[test]
+    fn free_places_are_the_first_that_are_not_used(rt: HostRuntime) -> Result<(), Fail> {
+        let mut set = SectorSet::new(rt.alloc(), 6)?;
+        assert_eq!(rt; set.len(), 6);
+        assert_eq!(rt; set.free(), 6);
+        for (sector, used) in [(0, true), (2, true), (3, true), (2, false)] {
+            mark(&rt, &mut set, sector, used);
+        }
+        for (sector, used) in [(0, true), (1, false), (2, false), (3, true), (4, false)] {
+            assert_eq!(rt; is_used(&rt, &set, sector), used, "sector {sector}");
+        }
+        assert_eq!(rt; set.free(), 4);
+        let places = set.free_places(rt.alloc(), 3)?.ok_or("three are free")?;
+        assert_eq!(rt; places.as_slice(), [1, 2, 4].as_slice());
+        assert_eq!(rt; set.free(), 4);
+        Ok(())
+    }
+
+    #[test]
+    fn the_whole_pool_and_nothing_of_it_are_given(rt: HostRuntime) -> Result<(), Fail> {
+        let mut set = SectorSet::new(rt.alloc(), 2)?;
+        let none = set.free_places(rt.alloc(), 0)?.ok_or("none are wanted")?;
+        assert!(rt; none.is_empty());
+        let both = set.free_places(rt.alloc(), 2)?.ok_or("two are free")?;
+        assert_eq!(rt; both.as_slice(), [0, 1].as_slice());
+        mark(&rt, &mut set, 0, true);
+        let last = set.free_places(rt.alloc(), 1)?.ok_or("one is free")?;
+        assert_eq!(rt; last.as_slice(), [1].as_slice());
+        mark(&rt, &mut set, 1, true);
+        let none = set.free_places(rt.alloc(), 0)?.ok_or("none are wanted")?;
+        assert!(rt; none.is_empty());
+        Ok(())
+    }
+
+    #[test]
+    fn fewer_free_places_than_are_wanted_are_none(rt: HostRuntime) -> Result<(), Fail> {
+        let mut set = SectorSet::new(rt.alloc(), 3)?;
+        mark(&rt, &mut set, 1, true);
+        for (wanted, found) in [(2, true), (3, false), (u64::MAX, false)] {
+            let places = set.free_places(rt.alloc(), wanted)?;
+            assert_eq!(rt; places.is_some(), found, "{wanted} wanted");
+        }
+        let empty = SectorSet::new(rt.alloc(), 0)?;
+        assert_eq!(rt; empty.free(), 0);
+        assert!(rt; empty.free_places(rt.alloc(), 1)?.is_none());
+        Ok(())
+    }
+
+    fn mark(rt: &impl Abort, set: &mut SectorSet, sector: u64, used: bool) {
+        assert!(rt; sector < set.len());
+        set.set(sector, used);
+    }
+
+    fn is_used(rt: &impl Abort, set: &SectorSet, sector: u64) -> bool {
+        assert!(rt; sector < set.len());
+        set.has(sector)
     }
 }

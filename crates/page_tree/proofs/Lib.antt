@@ -2,3 +2,5 @@ pub mod PointerLaws
 pub mod ChainLaws
 pub mod Chaining
 pub mod Walking
+pub mod Digests
+pub mod ChainBack

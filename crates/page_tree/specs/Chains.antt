@@ -109,6 +109,10 @@ abbrev pub Written : Option Image → Option Image → List PageWrite → Type 0
 Written None new writes = ⊤
 Written (Some image) new writes = new ≡ Some (fold write_page image writes)
 
+-- an image holds what these writes put into their sectors
+abbrev pub HoldsWrites : Image → List PageWrite → Type 0
+HoldsWrites image writes = AllByRecursion (λ write. sector_at image write.sector ≡ write.bytes) writes
+
 -- images of one size that differ in none but these sectors
 pub record SameBut (places : List ℕ) (old new : Image) : Type 0 where
   pub count : length new ≡ length old
@@ -137,6 +141,11 @@ behind_records records (Some walked) = Some (record walked { records = records +
 abbrev pub is_open_to : (sectors : ℕ) → (named : List ℕ) → (sector : ℕ) → Bool
 is_open_to sectors named sector = nat_le 32 sector && nat_lt sector sectors && not (list_any (λ other. other == sector) named)
 
+-- places where a chain can stand: on the disk, outside the ring, each once, and none that is named yet
+abbrev pub AreOpen : (sectors : ℕ) → (named places : List ℕ) → Type 0
+AreOpen sectors named [] = ⊤
+AreOpen sectors named (place ∷ places) = (is_open_to sectors named place ≡ true) × AreOpen sectors (named ++ place ∷ []) places
+
 -- whether a sector holds the page of this pointer, and it has the form
 abbrev pub holds_page : Image → PagePtr → Bool
 holds_page image pointer = bytes_eq (sha256 (sector_at image pointer.sector)) pointer.digest && is_chain_page (sector_at image pointer.sector)
@@ -157,12 +166,3 @@ chain_in image sectors named root = walk sectors image sectors named (pointer_or
 -- a walk came to its end with these sectors named, and its records behind those that there were
 abbrev pub HasWalked : Option Walked → (named : List ℕ) → (old new : List (List ℕ)) → Type 0
 HasWalked walked named old new = (records : List (List ℕ)) × (walked ≡ Some (record { named = named; records = records })) × (new ≡ old ++ records)
-
--- an image holds what these writes put into their sectors
-abbrev pub HoldsWrites : Image → List PageWrite → Type 0
-HoldsWrites image writes = AllByRecursion (λ write. sector_at image write.sector ≡ write.bytes) writes
-
--- places where a chain can stand: on the disk, outside the ring, each once, and none that is named yet
-abbrev pub AreOpen : (sectors : ℕ) → (named places : List ℕ) → Type 0
-AreOpen sectors named [] = ⊤
-AreOpen sectors named (place ∷ places) = (is_open_to sectors named place ≡ true) × AreOpen sectors (named ++ place ∷ []) places

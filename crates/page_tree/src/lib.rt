@@ -13,7 +13,8 @@
 //!
 //! A chain keeps a list of records of 72 bytes, 56 on a page; each page names the next one.
 //! `write_chain` writes its pages from the last to the first, and its clause on crashes says that
-//! no other sector is touched; `read_chain` walks it from its root.
+//! no other sector is touched; `read_chain` walks it from its root. What is written at places that are
+//! open, each once, outside the ring and not named yet, is read back, as `chain_is_read_back` says.
 //!
 //! The ring of seals and every writer and reader of pages stand on this crate.
 #![tactic(auto)]
@@ -32,7 +33,7 @@ mod reader_tests;
 #[cfg(test)]
 mod tests;
 
-pub use chain::write_chain;
+pub use chain::{chain_is_read_back, write_chain};
 pub use chain_page::{PAGE_RECORDS, chain_page_is_read_back};
 pub use chain_walk::{RecordList, SectorList, read_chain};
 pub use fault::{FindFault, PageFault};

@@ -1,8 +1,14 @@
 pub mod Created
 pub mod FlatLaws
 pub mod Kept
-pub mod SlotLaws
-pub mod Spelled
+pub mod Lists
 pub mod SealBack
+pub mod SlotLaws
 pub mod SlotsAfter
+pub mod Sorted
+pub mod Spelled
 pub mod Stands
+pub mod Syncing
+pub mod TableBack
+pub mod TablePuts
+pub mod TableRoom

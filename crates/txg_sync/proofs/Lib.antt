@@ -1,3 +1,4 @@
 pub mod Taking
 pub mod Beginnings
 pub mod Sealing
+pub mod Storing

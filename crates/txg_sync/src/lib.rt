@@ -12,6 +12,8 @@
 mod begin;
 mod fault;
 mod fill;
+mod part;
+mod store;
 mod take;
 #[cfg(test)]
 mod tests;
@@ -19,4 +21,6 @@ mod tests;
 pub use begin::seal_new_pool;
 pub use fault::SealFault;
 pub use fill::fill_slot;
+pub use part::ChainPages;
+pub use store::write_blocks;
 pub use take::take_slot;
