@@ -11,46 +11,8 @@ use Rattle.table_state.specs.SlotRecords.{is_slot, FitsSlot}
 use Rattle.table_state.specs.Pools.{is_slot_at, insert_slot, slot_with, set_slot, slots_after}
 use Rattle.table_state.specs.Sealed.{changed_slot, ChangesSlotWithin}
 use Rattle.table_state.specs.declared.slot_record.SlotRecord.{SlotRecord}
+use Rattle.table_state.proofs.Lists.{all_from, all_filter, all_tested, pairs_filter, length-filter-le}
 use Rattle.table_state.proofs.SlotLaws.{is_slot-from, is_slot-true}
-use Rattle.table_state.proofs.Spelled.{each_so}
-
--- ---- What a filter keeps
-
--- what holds of each holds of each that is kept
-pub each_kept : {X : Type 0} (P : X → Type 0) (test : X → Bool) (xs : List X) → AllByRecursion P xs → AllByRecursion P (filter test xs)
-each_kept P test [] all = tt
-each_kept P test (x ∷ xs) all = by_test (test x) (each_kept P test xs all.1)
-  where
-    by_test : (b : Bool) → AllByRecursion P (filter test xs) → AllByRecursion P (if b then x ∷ filter test xs else filter test xs)
-    by_test true others = (all.0, others)
-    by_test false others = others
-
--- what is kept has passed
-pub each_passed : {X : Type 0} (test : X → Bool) (xs : List X) → AllByRecursion (λ x. test x ≡ true) (filter test xs)
-each_passed test [] = tt
-each_passed test (x ∷ xs) = by_test (test x) refl (each_passed test xs)
-  where
-    by_test : (b : Bool) → test x ≡ b → AllByRecursion (λ y. test y ≡ true) (filter test xs) → AllByRecursion (λ y. test y ≡ true) (if b then x ∷ filter test xs else filter test xs)
-    by_test true passed others = (passed, others)
-    by_test false passed others = others
-
--- what holds between each and each later one holds between those that are kept
-pub pairs_kept : {X : Type 0} (R : X → X → Type 0) (test : X → Bool) (xs : List X) → Pairwise R xs → Pairwise R (filter test xs)
-pairs_kept R test [] pairs = tt
-pairs_kept R test (x ∷ xs) pairs = by_test (test x) (pairs_kept R test xs pairs.1)
-  where
-    by_test : (b : Bool) → Pairwise R (filter test xs) → Pairwise R (if b then x ∷ filter test xs else filter test xs)
-    by_test true others = (each_kept (R x) test xs pairs.0, others)
-    by_test false others = others
-
--- a filter keeps no more than there is
-pub fewer_kept : {X : Type 0} (test : X → Bool) (xs : List X) → length (filter test xs) ≤ length xs
-fewer_kept test [] = omega arith
-fewer_kept test (x ∷ xs) = by_test (test x) (fewer_kept test xs)
-  where
-    by_test : (b : Bool) → length (filter test xs) ≤ length xs → length (if b then x ∷ filter test xs else filter test xs) ≤ length (x ∷ xs)
-    by_test true others = omega (arith, others)
-    by_test false others = omega (arith, others)
 
 -- ---- The order of slots
 
@@ -85,7 +47,7 @@ rising_inserted new [] apart rising = (tt, tt)
 rising_inserted new (held ∷ slots) apart rising = by_test (stands_before new held) refl (rising_inserted new slots apart.1 rising.1)
   where
     by_test : (b : Bool) → stands_before new held ≡ b → Pairwise (λ a c. stands_before a c ≡ true) (insert_slot new slots) → Pairwise (λ a c. stands_before a c ≡ true) (if b then new ∷ held ∷ slots else held ∷ insert_slot new slots)
-    by_test true before more = ((before, each_so (λ s. stands_before held s ≡ true) (λ s. stands_before new s ≡ true) (λ s behind. stands_through new held s before behind) slots rising.0), rising)
+    by_test true before more = ((before, all_from (λ s. stands_before held s ≡ true) (λ s. stands_before new s ≡ true) (λ s behind. stands_through new held s before behind) slots rising.0), rising)
     by_test false behind more = (each_inserted (λ s. stands_before held s ≡ true) new slots (stands_behind new held behind apart.0) rising.0, more)
 
 length_inserted : (new : SlotRecord) (slots : List SlotRecord) → length (insert_slot new slots) ≤ length slots + 1
@@ -109,7 +71,7 @@ each_set : (P : SlotRecord → Type 0) (slots : List SlotRecord) (change : SlotC
 each_set P slots change makes all = by_pointer change.pointer makes
   where
     left : AllByRecursion P (others change slots)
-    left = each_kept P (λ held. not (is_slot_at change.lane change.slot held)) slots all
+    left = all_filter P (λ held. not (is_slot_at change.lane change.slot held)) slots all
 
     by_pointer : (pointer : Option SlotPointer) → IfSome pointer (λ p. P (changed_slot change p)) → AllByRecursion P (slot_with change pointer (others change slots))
     by_pointer None one = left
@@ -119,17 +81,17 @@ rising_set : (slots : List SlotRecord) (change : SlotChange) → Pairwise (λ a 
 rising_set slots change rising = by_pointer change.pointer
   where
     left : Pairwise (λ a b. stands_before a b ≡ true) (others change slots)
-    left = pairs_kept (λ a b. stands_before a b ≡ true) (λ held. not (is_slot_at change.lane change.slot held)) slots rising
+    left = pairs_filter (λ a b. stands_before a b ≡ true) (λ held. not (is_slot_at change.lane change.slot held)) slots rising
 
     by_pointer : (pointer : Option SlotPointer) → Pairwise (λ a b. stands_before a b ≡ true) (slot_with change pointer (others change slots))
     by_pointer None = left
-    by_pointer (Some pointer) = rising_inserted (changed_slot change pointer) (others change slots) (each_passed (λ held. not (is_slot_at change.lane change.slot held)) slots) left
+    by_pointer (Some pointer) = rising_inserted (changed_slot change pointer) (others change slots) (all_tested (λ held. not (is_slot_at change.lane change.slot held) ≡ true) (λ held. not (is_slot_at change.lane change.slot held)) (λ held passed. passed) slots) left
 
 length_set : (slots : List SlotRecord) (change : SlotChange) → length (set_slot slots change) ≤ length slots + 1
 length_set slots change = by_pointer change.pointer
   where
     left : length (others change slots) ≤ length slots
-    left = fewer_kept (λ held. not (is_slot_at change.lane change.slot held)) slots
+    left = length-filter-le (λ held. not (is_slot_at change.lane change.slot held)) slots
 
     by_pointer : (pointer : Option SlotPointer) → length (slot_with change pointer (others change slots)) ≤ length slots + 1
     by_pointer None = omega (arith, left)
@@ -162,14 +124,14 @@ pub within_after : (sectors group : ℕ) (changes : List SlotChange) (slots : Li
     → AllByRecursion (λ slot. is_slot sectors group slot ≡ true) (slots_after changes slots)
 within_after sectors group changes slots within all =
     each_after (λ slot. is_slot sectors group slot ≡ true) changes slots
-    (each_so (ChangesSlotWithin sectors group) (Makes (λ slot. is_slot sectors group slot ≡ true)) (λ change one. (two_of (λ slot. is_slot sectors group slot ≡ true) FitsSlot change change.pointer one.pointer).0) changes within)
+    (all_from (ChangesSlotWithin sectors group) (Makes (λ slot. is_slot sectors group slot ≡ true)) (λ change one. (two_of (λ slot. is_slot sectors group slot ≡ true) FitsSlot change change.pointer one.pointer).0) changes within)
     all
 
 -- and have spellings
 pub fit_after : (sectors group : ℕ) (changes : List SlotChange) (slots : List SlotRecord) → AllByRecursion (ChangesSlotWithin sectors group) changes → AllByRecursion FitsSlot slots → AllByRecursion FitsSlot (slots_after changes slots)
 fit_after sectors group changes slots within all =
     each_after FitsSlot changes slots
-    (each_so (ChangesSlotWithin sectors group) (Makes FitsSlot) (λ change one. (two_of (λ slot. is_slot sectors group slot ≡ true) FitsSlot change change.pointer one.pointer).1) changes within)
+    (all_from (ChangesSlotWithin sectors group) (Makes FitsSlot) (λ change one. (two_of (λ slot. is_slot sectors group slot ≡ true) FitsSlot change change.pointer one.pointer).1) changes within)
     all
 
 -- ---- A later group
@@ -182,4 +144,4 @@ is_slot_later sectors group later le slot is =
 -- slots of a group are slots of each later one
 pub within_later : (sectors group later : ℕ) → group ≤ later → (slots : List SlotRecord) → AllByRecursion (λ slot. is_slot sectors group slot ≡ true) slots → AllByRecursion (λ slot. is_slot sectors later slot ≡ true) slots
 within_later sectors group later le slots within =
-    each_so (λ slot. is_slot sectors group slot ≡ true) (λ slot. is_slot sectors later slot ≡ true) (is_slot_later sectors group later le) slots within
+    all_from (λ slot. is_slot sectors group slot ≡ true) (λ slot. is_slot sectors later slot ≡ true) (is_slot_later sectors group later le) slots within

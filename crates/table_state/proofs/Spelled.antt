@@ -13,22 +13,13 @@ use Rattle.page_tree.specs.Chains.{record_len}
 use Rattle.table_state.specs.SlotRecords.{slot_bytes, slot_in, is_slot, FitsSlot}
 use Rattle.table_state.specs.Sealed.{entry_bytes}
 use Rattle.table_state.specs.declared.slot_record.SlotRecord.{SlotRecord}
+use Rattle.table_state.proofs.Lists.{all_from_both}
 use Rattle.table_state.proofs.SlotLaws.{written as slot_written, is_slot-from, length-slot}
 
 -- ---- Of each element
 
--- two facts of each element as one
-pub both_of_each : {X : Type 0} (P Q : X → Type 0) (xs : List X) → AllByRecursion P xs → AllByRecursion Q xs → AllByRecursion (λ x. P x × Q x) xs
-both_of_each P Q [] all others = tt
-both_of_each P Q (x ∷ xs) all others = ((all.0, others.0), both_of_each P Q xs all.1 others.1)
-
--- what follows from a fact of each element holds of each
-pub each_so : {X : Type 0} (P Q : X → Type 0) → ((x : X) → P x → Q x) → (xs : List X) → AllByRecursion P xs → AllByRecursion Q xs
-each_so P Q so [] all = tt
-each_so P Q so (x ∷ xs) all = (so x all.0, each_so P Q so xs all.1)
-
 -- what follows of the image of an element holds of each image
-pub each_mapped : {X Y : Type 0} (f : X → Y) (P : X → Type 0) (Q : Y → Type 0) → ((x : X) → P x → Q (f x)) → (xs : List X) → AllByRecursion P xs → AllByRecursion Q (map f xs)
+each_mapped : {X Y : Type 0} (f : X → Y) (P : X → Type 0) (Q : Y → Type 0) → ((x : X) → P x → Q (f x)) → (xs : List X) → AllByRecursion P xs → AllByRecursion Q (map f xs)
 each_mapped f P Q so [] all = tt
 each_mapped f P Q so (x ∷ xs) all = (so x all.0, each_mapped f P Q so xs all.1)
 
@@ -49,7 +40,7 @@ pub slots_spelled : (sectors group : ℕ) (slots : List SlotRecord) → AllByRec
     → map (slot_in sectors group) (map slot_bytes slots) ≡ map Some slots
 slots_spelled sectors group slots within fits =
     each_read slot_bytes (slot_in sectors group) Some (λ slot. (is_slot sectors group slot ≡ true) × FitsSlot slot) (slot_back sectors group) slots
-    (both_of_each (λ slot. is_slot sectors group slot ≡ true) FitsSlot slots within fits)
+    (all_from_both (λ slot. is_slot sectors group slot ≡ true) FitsSlot (λ slot. (is_slot sectors group slot ≡ true) × FitsSlot slot) (λ slot is fit. (is, fit)) slots within fits)
 
 pub slots_long : (slots : List SlotRecord) → AllByRecursion FitsSlot slots → AllByRecursion (λ bytes. length bytes ≡ record_len) (map slot_bytes slots)
 slots_long slots fits = each_mapped slot_bytes FitsSlot (λ bytes. length bytes ≡ record_len) length-slot slots fits
@@ -66,7 +57,7 @@ change_back change can = ap change_in (sym (append-nil (record_bytes change))) �
 pub changes_spelled : (log : List Change) → AllByRecursion ChangeFits log → AllByRecursion (λ change. IsKeyLength (key_in change).len) log → map change_in (map record_bytes log) ≡ map Ok log
 changes_spelled log fits lengths =
     each_read record_bytes change_in right (λ change. ChangeFits change × IsKeyLength (key_in change).len) change_back log
-    (both_of_each ChangeFits (λ change. IsKeyLength (key_in change).len) log fits lengths)
+    (all_from_both ChangeFits (λ change. IsKeyLength (key_in change).len) (λ change. ChangeFits change × IsKeyLength (key_in change).len) (λ change fit len. (fit, len)) log fits lengths)
 
 pub changes_long : (log : List Change) → AllByRecursion ChangeFits log → AllByRecursion (λ bytes. length bytes ≡ record_len) (map record_bytes log)
 changes_long log fits = each_mapped record_bytes ChangeFits (λ bytes. length bytes ≡ record_len) length-record log fits
@@ -76,7 +67,7 @@ pub entries_spelled : (entries : List Entry) → AllByRecursion (λ entry. Chang
     → map change_in (map entry_bytes entries) ≡ map (λ entry. Ok (changes.Entry entry)) entries
 entries_spelled entries fits lengths =
     each_read entry_bytes change_in (λ entry. right (changes.Entry entry)) (λ entry. ChangeFits (changes.Entry entry) × IsKeyLength entry.key.len) (λ entry can. change_back (changes.Entry entry) can) entries
-    (both_of_each (λ (entry : Entry). ChangeFits (changes.Entry entry)) (λ entry. IsKeyLength entry.key.len) entries fits lengths)
+    (all_from_both (λ (entry : Entry). ChangeFits (changes.Entry entry)) (λ entry. IsKeyLength entry.key.len) (λ entry. ChangeFits (changes.Entry entry) × IsKeyLength entry.key.len) (λ entry fit len. (fit, len)) entries fits lengths)
 
 pub entries_long : (entries : List Entry) → AllByRecursion (λ entry. ChangeFits (changes.Entry entry)) entries → AllByRecursion (λ bytes. length bytes ≡ record_len) (map entry_bytes entries)
 entries_long entries fits =
