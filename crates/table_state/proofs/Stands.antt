@@ -1,26 +1,22 @@
 -- An image that holds a group's chains, its seal and its blocks stands for the pool of the group.
-use Rattle.std.proofs.Common.{◌≡◌, ℕ, ◌+◌, ◌<◌, ◌≤◌, ◌^◌, true, ◌&&◌, ◌==◌, List, [], ◌∷◌, ◌++◌, Option, Some, None, map, length, get_or, refl, sym, ap, subst, ◌∙◌, append_assoc, arith}
+use Rattle.std.proofs.Common.{◌≡◌, ℕ, ◌<◌, ◌≤◌, ◌^◌, true, ◌&&◌, ◌==◌, List, [], ◌∷◌, ◌++◌, Option, Some, map, length, get_or, refl, sym, ap, subst, ◌∙◌, append_assoc, arith}
 use Rattle.std.specs.Prelude.{nat_le, nat_lt, not}
 use Rattle.std.specs.List.{AllByRecursion, list_any}
-use Rattle.std.specs.Ordering.{is_lt}
 use Rattle.std.proofs.lemmas.Bool.{and_parts, and_from}
 use Rattle.std.proofs.lemmas.Bool.Decides.{nat_tests}
-use Rattle.std.proofs.lemmas.List.{append-nil, length-append}
-use Rattle.ddt_entry.specs.Keys.{key_cmp}
+use Rattle.std.proofs.lemmas.List.{append-nil}
 use Rattle.ddt_entry.specs.Records.{record_bytes, IsKeyLength, Fits as ChangeFits}
-use Rattle.ddt_entry.specs.declared.entry.Entry.{Entry}
 use Rattle.ddt_entry.specs.declared.entry.Change.TheVariants as changes
 use Rattle.disk_model.specs.Images.{Image}
-use Rattle.page_tree.specs.Chains.{chain_in, chain_of, pages_for, record_len, is_open_to, HoldsWrites, AreOpen}
+use Rattle.page_tree.specs.Chains.{pages_for, is_open_to, AreOpen}
 use Rattle.uber_ring.specs.declared.seal.Seal.{Seal}
 use Rattle.pool_model.specs.declared.commands.Mode.{Mode}
 use Rattle.pool_model.specs.Pool.{Pool, Pointer}
 use Rattle.pool_model.specs.Plain.{Stored}
-use Rattle.pool_model.specs.Table.{TableState, entry_at}
-use Rattle.table_state.specs.SealForms.{checkpoint_in}
+use Rattle.pool_model.specs.Table.{TableState}
 use Rattle.table_state.specs.SlotRecords.{slot_bytes}
-use Rattle.table_state.specs.Flat.{Flat, IsRead, HoldTogether, StandsFor, AreRising, IsWithin, table_in, pool_in, pointer_of}
-use Rattle.table_state.specs.Tables.{IsTable, unique_in, duplicate_in}
+use Rattle.table_state.specs.Flat.{Flat, IsRead, HoldTogether, StandsFor, IsWithin, table_in, pool_in, pointer_of}
+use Rattle.table_state.specs.Tables.{unique_in, duplicate_in}
 use Rattle.table_state.specs.Pools.{with_blocks, pool_after}
 use Rattle.table_state.specs.Sealed.{ChainPart, places_in, roots_of, HoldsParts, entry_bytes, records_in, flat_of, seal_of, CanBeKept, CanStand, AreParts, SameBlocks, IsSealedImage}
 use Rattle.table_state.specs.declared.slot_record.SlotRecord.{SlotRecord}
