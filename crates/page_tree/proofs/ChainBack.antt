@@ -1,13 +1,11 @@
 -- A chain of pages that was written is read back.
-use Rattle.std.proofs.Common.{◌≡◌, ◌≢◌, ℕ, zero, suc, ◌^◌, ◌<◌, ◌≤◌, ◌⊎◌, Bool, true, false, ◌&&◌, ◌==◌, List, [], ◌∷◌, ◌++◌, Option, Some, None, length, take, drop, replicate, refl, sym, ap, subst, ◌∙◌, append_assoc, inl, inr, ⊎_elim, arith, eqb, eq-eqb, eqb-true}
-use Rattle.std.specs.Prelude.{fold, nat_le, nat_lt, not, if◌then◌else◌}
-use Rattle.std.specs.List.{list_any, AllByRecursion, IsDistinct}
-use Rattle.std.proofs.lemmas.Bool.{and_parts, and_from, and_left, both_ways, leb-true, ltb-true, not-true, or_left, or_right, or_cases, ne_eqb, cases_lt}
+use Rattle.std.proofs.Common.{◌≡◌, ◌≢◌, ℕ, zero, suc, ◌^◌, ◌<◌, ◌≤◌, ◌⊎◌, Bool, true, false, ◌&&◌, ◌==◌, List, [], ◌∷◌, ◌++◌, Option, Some, None, length, take, drop, replicate, refl, sym, ap, subst, ◌∙◌, append_assoc, inl, inr, arith}
+use Rattle.std.specs.Prelude.{fold, if◌then◌else◌}
+use Rattle.std.specs.List.{list_any, AllByRecursion}
+use Rattle.std.proofs.lemmas.Bool.{and_from, and_left, ne_eqb, cases_lt}
 use Rattle.std.proofs.lemmas.List.{append-nil, length-set, length-take, length-drop, take-append-drop, get_or-replicate, get_or_past}
-use Rattle.std.proofs.lemmas.List.Folds.{list_any-append}
 use Rattle.std.proofs.lemmas.List.Sums.{fold-append}
 use Rattle.std.proofs.lemmas.Slice.Eq.{bytes_eq-Decides}
-use Rattle.std.proofs.lemmas.Map.Steps.{length-le_from_distinct_below}
 use Rattle.sha2.specs.Sha256.{sha256}
 use Rattle.ddt_entry.specs.Bytes.{AreBytes}
 use Rattle.disk_model.specs.Images.{Image, sector_at}
@@ -16,15 +14,12 @@ use Rattle.page_tree.specs.Pointers.{FitsPointer, null_pointer}
 use Rattle.page_tree.specs.Chains.{ChainPage, FitsPage, PageWrite, Chain, Walked, HoldsWrites, AreOpen, SameBut, record_len, page_records, pages_for, is_null, is_open_to, is_chain_page, chain_page_bytes, chain_page_in, holds_page, behind_records, walk, chain_in, pointer_or_null, page_before, write_page, chain_of}
 use Rattle.page_tree.specs.declared.pointer.PagePtr.{PagePtr}
 use Rattle.page_tree.proofs.ChainLaws.{chain_page_in-chain_page_bytes, is_chain_page-chain_page_bytes}
+use Rattle.page_tree.proofs.OpenPlaces.{all_mapped, is_open-parts, apart_from_first, open_places-below, open_places-fewer}
 use Rattle.page_tree.proofs.Digests.{length-sha256, AreBytes-sha256}
 
 -- ---- what holds of each item of a list
 
 module _ {X : Type 0} (P : X → Type 0) where
-  all_mapped : (Q : X → Type 0) → ((x : X) → P x → Q x) → (xs : List X) → AllByRecursion P xs → AllByRecursion Q xs
-  all_mapped Q each [] all = tt
-  all_mapped Q each (x ∷ xs) all = (each x all.0, all_mapped Q each xs all.1)
-
   all_appended : (xs ys : List X) → AllByRecursion P xs → AllByRecursion P ys → AllByRecursion P (xs ++ ys)
   all_appended [] ys all_xs all_ys = all_ys
   all_appended (x ∷ xs) ys all_xs all_ys = (all_xs.0, all_appended xs ys all_xs.1 all_ys)
@@ -35,7 +30,6 @@ module _ {X : Type 0} (P : X → Type 0) where
       let parts = all_parts xs ys all.1 in
       ((all.0, parts.0), parts.1)
 
-module _ {X : Type 0} (P : X → Type 0) where
   all_taken : (count : ℕ) (xs : List X) → AllByRecursion P xs → AllByRecursion P (take count xs)
   all_taken zero xs all = tt
   all_taken (suc count) [] all = tt
@@ -45,70 +39,6 @@ module _ {X : Type 0} (P : X → Type 0) where
   all_dropped zero xs all = all
   all_dropped (suc count) [] all = tt
   all_dropped (suc count) (x ∷ xs) all = all_dropped count xs all.1
-
--- ---- places that are open
-
--- what is known of a place that is open
-record IsOpen (sectors : ℕ) (named : List ℕ) (place : ℕ) : Type 0 where
-  from : 32 ≤ place
-  below : place < sectors
-  fresh : list_any (λ other. other == place) named ≡ false
-
-is_open-parts : (sectors : ℕ) (named : List ℕ) (place : ℕ) → is_open_to sectors named place ≡ true → IsOpen sectors named place
-is_open-parts sectors named place is_open =
-    let both = and_parts (nat_le 32 place && nat_lt place sectors) (not (list_any (λ other. other == place) named)) is_open in
-    let range = and_parts (nat_le 32 place) (nat_lt place sectors) both.0 in
-    record { from = leb-true 32 place range.0; below = ltb-true place sectors range.1; fresh = not-true _ both.1 }
-
--- open places are none of those that are named
-apart_from_named : (sectors : ℕ) (named places : List ℕ) (sector : ℕ) → list_any (λ other. other == sector) named ≡ true → AreOpen sectors named places → AllByRecursion (λ place. place ≢ sector) places
-apart_from_named sectors named [] sector found all = tt
-apart_from_named sectors named (place ∷ places) sector found all = (
-  λ same. both_ways (list_any (λ other. other == place) named) (is_open-parts sectors named place all.0).fresh (subst (λ s. list_any (λ other. other == s) named ≡ true) (sym same) found),
-  apart_from_named sectors (named ++ place ∷ []) places sector (list_any-append (λ other. other == sector) named (place ∷ []) ∙ or_left _ _ found) all.1,
-)
-
--- and open places stand each once
-apart_from_first : (sectors : ℕ) (named : List ℕ) (place : ℕ) (places : List ℕ) → AreOpen sectors (named ++ place ∷ []) places → AllByRecursion (λ other. other ≢ place) places
-apart_from_first sectors named place places all =
-    apart_from_named sectors (named ++ place ∷ []) places place
-    (list_any-append (λ other. other == place) named (place ∷ []) ∙ or_right _ _ (or_left _ _ (eq-eqb place place refl)))
-    all
-
--- open places are on the disk
-pub open_places-below : (sectors limit : ℕ) (named places : List ℕ) → sectors ≤ limit → AreOpen sectors named places → AllByRecursion (λ place. place < limit) places
-open_places-below sectors limit named [] within all = tt
-open_places-below sectors limit named (place ∷ places) within all =
-    let here = (is_open-parts sectors named place all.0).below in
-    (omega arith, open_places-below sectors limit (named ++ place ∷ []) places within all.1)
-
--- none is another
-open_places-distinct : (sectors : ℕ) (named places : List ℕ) → AreOpen sectors named places → IsDistinct eqb places
-unfolding IsDistinct
-open_places-distinct sectors named [] all = tt
-open_places-distinct sectors named (place ∷ places) all = (
-  all_mapped (λ other. other ≢ place) (λ other. eqb place other ≡ false) (λ other apart. ne_eqb place other (λ same. apart (sym same))) places (apart_from_first sectors named place places all.1),
-  open_places-distinct sectors (named ++ place ∷ []) places all.1,
-)
-
--- what holds of each number of a list holds of one that is found there
-found_below : (limit : ℕ) (numbers : List ℕ) (number : ℕ) → AllByRecursion (λ n. n < limit) numbers → list_any (eqb number) numbers ≡ true → number < limit
-found_below limit [] number all found = absurd (cc found)
-found_below limit (first ∷ numbers) number all found =
-    ⊎_elim (λ here. subst (λ n. n < limit) (sym (eqb-true number first here)) all.0) (λ behind. found_below limit numbers number all.1 behind) (or_cases (eqb number first) (list_any (eqb number) numbers) found)
-
--- so they are fewer than the sectors of the disk, of which the first is none of them
-pub open_places-fewer : (sectors : ℕ) (named places : List ℕ) → 0 < sectors → AreOpen sectors named places → length places < sectors
-unfolding IsDistinct
-open_places-fewer sectors named places some all =
-    let count = length-le_from_distinct_below (0 ∷ places) sectors (not_first named places all, open_places-distinct sectors named places all) (λ number. found_below sectors (0 ∷ places) number (some, open_places-below sectors sectors named places (omega arith) all)) in
-    omega (arith, count)
-  where
-    not_first : (ns ps : List ℕ) → AreOpen sectors ns ps → AllByRecursion (λ place. eqb 0 place ≡ false) ps
-    not_first ns [] all_open = tt
-    not_first ns (place ∷ ps) all_open =
-        let here = (is_open-parts sectors ns place all_open.0).from in
-        (ne_eqb 0 place (λ same. omega (arith, same, here)), not_first (ns ++ place ∷ []) ps all_open.1)
 
 -- ---- what the writes of a chain leave
 

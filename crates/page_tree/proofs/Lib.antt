@@ -3,4 +3,5 @@ pub mod ChainLaws
 pub mod Chaining
 pub mod Walking
 pub mod Digests
+pub mod OpenPlaces
 pub mod ChainBack

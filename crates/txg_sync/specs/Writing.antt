@@ -70,3 +70,8 @@ Seals slot contents parts seal (Some image) new = (c : Image) × (new ≡ Some c
 abbrev pub FollowsSeal : (group : ℕ) → Option Image → Type 0
 FollowsSeal group None = ⊤
 FollowsSeal group (Some image) = (before : Seal) × (newest flat_version image ≡ Some before) × (group ≡ before.group + 1)
+
+-- told contents in which these chains stand
+abbrev pub HoldsSince : Option Image → Option Image → List ChainPart → Type 0
+HoldsSince None new parts = ⊤
+HoldsSince (Some image) new parts = (c : Image) × (new ≡ Some c) × HoldsParts c parts

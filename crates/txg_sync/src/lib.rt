@@ -22,5 +22,5 @@ pub use begin::seal_new_pool;
 pub use fault::SealFault;
 pub use fill::fill_slot;
 pub use part::ChainPages;
-pub use store::write_blocks;
+pub use store::{write_blocks, write_parts};
 pub use take::take_slot;

@@ -1,13 +1,12 @@
-ghost use Rattle.std.specs.Prelude.{◌≡◌, ◌≤◌, ◌<◌, ◌++◌, ◌∷◌, [], ℕ, length, map, All, OnOk, replicate};
+ghost use Rattle.std.specs.Prelude.{◌≡◌, ◌≤◌, ◌<◌, ◌++◌, [], ℕ, length, map, drop, All, OnOk};
 ghost use Rattle.disk_model.specs.Images.{Image};
 ghost use Rattle.disk_model.specs.Crashes.{LeavesOnly};
 ghost use Rattle.disk_model.specs.Faults.{HasCause};
 ghost use Rattle.page_tree.specs.Chains.{pages_for, AreOpen, MayTouchAll, ChainLeaves};
-ghost use Rattle.page_tree.specs.Pointers.{null_pointer};
 ghost use Rattle.pool_model.specs.Plain.{stored_of};
 ghost use Rattle.table_state.specs.Pools.{block_sector};
 ghost use Rattle.table_state.specs.Sealed.{places_in, roots_of};
-ghost use Rattle.txg_sync.specs.Writing.{block_places, Stores, group_places, StoresParts};
+ghost use Rattle.txg_sync.specs.Writing.{block_places, Stores, HoldsSince};
 
 use crate::part::ChainPages;
 use arrayvec::ArrayVec;
@@ -44,6 +43,36 @@ pub fn write_blocks<D: Disk>(disk: &mut D, contents: &[StoredBlock]) -> Result<(
     'each: for stored in contents {
         let sector = sector_of(stored.block.as_slice());
         disk.write(stored.place, &sector)?;
+        crash_laws(disk);
+    }
+    Ok(())
+}
+
+/// Writes chains to their places, with no barrier behind them, and puts the pointers to their first pages
+/// into `pointers`, from its front. Takes no memory.
+pub fn write_parts<D: Disk>(
+    disk: &mut D,
+    parts: &[ChainPages],
+    pointers: &mut [PagePtr; 6],
+) -> Result<(), Failed>
+    requires few { length parts.now ≤ 6 }
+    requires pages { All (λ part. length part.places ≡ pages_for (length part.records)) parts.now }
+    requires places { AreOpen (D.sectors_of disk.old) [] (places_in parts.now) }
+    ensures sectors { D.sectors_of disk.new ≡ D.sectors_of disk.old }
+    ensures held { OnOk result (HoldsSince (D.seen disk.old) (D.seen disk.new) parts.now) }
+    ensures roots { OnOk result (pointers.new ≡ roots_of parts.now ++ drop (length parts.now) pointers.old) }
+    ensures touched { MayTouchAll (D.seen disk.old) (D.seen disk.new) (places_in parts.now) }
+    ensures any_moment { LeavesOnly D.clock D.left_since disk.old disk.new
+        (ChainLeaves (places_in parts.now) (D.may_leave disk.old)) }
+    ensures reads { D.read_faults disk.old ≤ D.read_faults disk.new }
+    ensures cause { HasCause (D.write_faults disk.old) (D.write_faults disk.new) result }
+{
+    crash_laws(disk);
+    let _sectors = disk.sectors();
+    'chains: for i in 0..parts.len() {
+        let part = &parts[i];
+        let root = write_chain(disk, part.records.as_slice(), part.places.as_slice())?;
+        pointers[i] = root.unwrap_or(PagePtr::NULL);
         crash_laws(disk);
     }
     Ok(())
