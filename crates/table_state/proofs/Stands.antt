@@ -1,14 +1,11 @@
 -- An image that holds a group's chains, its seal and its blocks stands for the pool of the group.
-use Rattle.std.proofs.Common.{◌≡◌, ℕ, ◌<◌, ◌≤◌, ◌^◌, true, ◌&&◌, ◌==◌, List, [], ◌∷◌, ◌++◌, Option, Some, map, length, get_or, refl, sym, ap, subst, ◌∙◌, append_assoc, arith}
-use Rattle.std.specs.Prelude.{nat_le, nat_lt, not}
-use Rattle.std.specs.List.{AllByRecursion, list_any}
-use Rattle.std.proofs.lemmas.Bool.{and_parts, and_from}
-use Rattle.std.proofs.lemmas.Bool.Decides.{nat_tests}
+use Rattle.std.proofs.Common.{◌≡◌, ℕ, ◌<◌, ◌≤◌, ◌^◌, List, [], ◌∷◌, ◌++◌, Option, Some, map, length, get_or, refl, sym, ap, subst, ◌∙◌, append_assoc, arith}
+use Rattle.std.specs.List.{AllByRecursion}
 use Rattle.std.proofs.lemmas.List.{append-nil}
 use Rattle.ddt_entry.specs.Records.{record_bytes, IsKeyLength, Fits as ChangeFits}
 use Rattle.ddt_entry.specs.declared.entry.Change.TheVariants as changes
 use Rattle.disk_model.specs.Images.{Image}
-use Rattle.page_tree.specs.Chains.{pages_for, is_open_to, AreOpen}
+use Rattle.page_tree.specs.Chains.{pages_for, AreOpen}
 use Rattle.uber_ring.specs.declared.seal.Seal.{Seal}
 use Rattle.pool_model.specs.declared.commands.Mode.{Mode}
 use Rattle.pool_model.specs.Pool.{Pool, Pointer}
@@ -21,46 +18,18 @@ use Rattle.table_state.specs.Pools.{with_blocks, pool_after}
 use Rattle.table_state.specs.Sealed.{ChainPart, places_in, roots_of, HoldsParts, entry_bytes, records_in, flat_of, seal_of, CanBeKept, CanStand, AreParts, SameBlocks, IsSealedImage}
 use Rattle.table_state.specs.declared.slot_record.SlotRecord.{SlotRecord}
 use Rattle.page_tree.proofs.ChainBack.{chain_is_read_back}
+use Rattle.page_tree.proofs.OpenPlaces.{is_open-parts, is_open-from, open_places-below, open_places-parts}
 use Rattle.table_state.proofs.Kept.{pointers_kept}
 use Rattle.table_state.proofs.SealBack.{seal_modes_back, seal_quota_back, seal_checkpoint_back, seal_is_formed}
 use Rattle.table_state.proofs.TableBack.{table_back, unique_rises, duplicate_rises, unique_counted, duplicate_counted, unique_keeps, duplicate_keeps, one_class}
 use Rattle.table_state.proofs.Spelled.{slots_spelled, slots_long, entries_spelled, entries_long, changes_spelled, changes_long}
 
--- ---- Open places
-
 -- places that are open on a disk are open on a longer one
 open_wider : (sectors longer : ℕ) → sectors ≤ longer → (named places : List ℕ) → AreOpen sectors named places → AreOpen longer named places
 open_wider sectors longer le named [] all = tt
-open_wider sectors longer le named (place ∷ places) all = (here, open_wider sectors longer le (named ++ place ∷ []) places all.1)
-  where
-    below : nat_lt place sectors ≡ true → nat_lt place longer ≡ true
-    below is = grind (arith, nat_tests, is, le)
-
-    here : is_open_to longer named place ≡ true
-    here =
-        let parts = and_parts (nat_le 32 place && nat_lt place sectors) (not (list_any (λ other. other == place) named)) all.0 in
-        let range = and_parts (nat_le 32 place) (nat_lt place sectors) parts.0 in
-        and_from _ _ (and_from _ _ range.0 (below range.1)) parts.1
-
--- open places are on the disk
-open_below : (sectors : ℕ) (named places : List ℕ) → AreOpen sectors named places → AllByRecursion (λ place. place < sectors) places
-open_below sectors named [] all = tt
-open_below sectors named (place ∷ places) all = (here, open_below sectors (named ++ place ∷ []) places all.1)
-  where
-    below : nat_lt place sectors ≡ true → place < sectors
-    below is = grind (arith, nat_tests, is)
-
-    here : place < sectors
-    here =
-        let parts = and_parts (nat_le 32 place && nat_lt place sectors) (not (list_any (λ other. other == place) named)) all.0 in
-        below (and_parts (nat_le 32 place) (nat_lt place sectors) parts.0).1
-
--- open places are two parts, the second open behind the first
-open_parts : (sectors : ℕ) (named first second : List ℕ) → AreOpen sectors named (first ++ second) → AreOpen sectors named first × AreOpen sectors (named ++ first) second
-open_parts sectors named [] second all = (tt, subst (λ (ns : List ℕ). AreOpen sectors ns second) (sym (append-nil named)) all)
-open_parts sectors named (place ∷ first) second all =
-    let parts = open_parts sectors (named ++ place ∷ []) first second all.1 in
-    ((all.0, parts.0), subst (λ (ns : List ℕ). AreOpen sectors ns second) (append_assoc named (place ∷ []) first) parts.1)
+open_wider sectors longer le named (place ∷ places) all =
+    let here = is_open-parts sectors named place all.0 in
+    (is_open-from longer named place (record { from = here.from; below = omega (arith, here.below, le); fresh = here.fresh }), open_wider sectors longer le (named ++ place ∷ []) places all.1)
 
 -- ---- The five parts
 
@@ -141,11 +110,11 @@ module _ (tag sectors group : ℕ) (slots : List SlotRecord) (table : TableState
       → let parts : List ChainPart = part_of p (map slot_bytes slots) ∷ part_of q (map entry_bytes (unique_in table.zap)) ∷ part_of r (map entry_bytes (duplicate_in table.zap)) ∷ part_of s (map record_bytes table.active) ∷ part_of t (map record_bytes table.flush) ∷ [] in
       AreHeld c parts → IsRead c (seal_with parts) (flat_with parts)
   read_five c p q r s t small are =
-      let at_p = open_parts (length c) [] p (q ++ (r ++ (s ++ (t ++ [])))) are.places_open in
-      let at_q = open_parts (length c) p q (r ++ (s ++ (t ++ []))) at_p.1 in
-      let at_r = open_parts (length c) (p ++ q) r (s ++ (t ++ [])) at_q.1 in
-      let at_s = open_parts (length c) ((p ++ q) ++ r) s (t ++ []) at_r.1 in
-      let at_t = open_parts (length c) (((p ++ q) ++ r) ++ s) t [] at_s.1 in
+      let at_p = open_places-parts (length c) [] p (q ++ (r ++ (s ++ (t ++ [])))) are.places_open in
+      let at_q = open_places-parts (length c) p q (r ++ (s ++ (t ++ []))) at_p.1 in
+      let at_r = open_places-parts (length c) (p ++ q) r (s ++ (t ++ [])) at_q.1 in
+      let at_s = open_places-parts (length c) ((p ++ q) ++ r) s (t ++ []) at_r.1 in
+      let at_t = open_places-parts (length c) (((p ++ q) ++ r) ++ s) t [] at_s.1 in
       record {
         after_slots = p;
         after_unique = p ++ q;
@@ -178,7 +147,7 @@ module _ (tag sectors group : ℕ) (slots : List SlotRecord) (table : TableState
   -- what is read keeps the rules together
   whole_with : (parts : List ChainPart) → AreOpen sectors [] (places_in parts) → HoldTogether (seal_with parts) (flat_with parts)
   whole_with parts places_open = record {
-    pages_within = open_below sectors [] (places_in parts) places_open;
+    pages_within = open_places-below sectors sectors [] (places_in parts) (omega arith) places_open;
     slots_rising = can.slots_rising;
     unique_within = unique_keeps (IsWithin sectors group) table.zap can.within.zap;
     duplicate_within = duplicate_keeps (IsWithin sectors group) table.zap can.within.zap;
