@@ -15,6 +15,7 @@ use Rattle.pool_model.specs.Table.{TableState}
 use Rattle.table_state.specs.Flat.{Flat, IsRead, StandsFor, Reads, SameIn, flat_version, table_in, pointer_of}
 use Rattle.uber_ring.specs.declared.seal.Seal.{Seal}
 use Rattle.table_state.specs.SealForms.{is_formed, modes_in, quota_in, slots_root, unique_root, duplicate_root, active_root, flushing_root}
+use Rattle.table_state.specs.Sealed.{SameBlocks}
 use Rattle.table_state.specs.declared.slot_record.SlotRecord.{SlotRecord}
 
 -- a sector that is named holds the same
@@ -102,6 +103,15 @@ walk_kept (suc most) image c sectors named pointer walked is same =
         page : sector_at c pointer.sector ≡ sector_at image pointer.sector
         page = same_there image c w.named pointer.sector there (named_grows (λ other. other == pointer.sector) most image sectors (named ++ pointer.sector ∷ []) (next_in (sector_at image pointer.sector)) w rest self)
 
+-- the pointers keep their contents where their blocks are the same
+pub pointers_kept : (image c : Image) (table : TableState) (slots : List SlotRecord) → SameBlocks image c slots → map (pointer_of image table) slots ≡ map (pointer_of c table) slots
+pointers_kept image c table [] same = refl
+pointers_kept image c table (slot ∷ slots) same =
+    ap (λ (bytes : List ℕ). with_block bytes ∷ map (pointer_of image table) slots) (sym same.0) ∙ ap (λ (ps : List Pointer). pointer_of c table slot ∷ ps) (pointers_kept image c table slots same.1)
+  where
+    with_block : List ℕ → Pointer
+    with_block bytes = record (pointer_of c table slot) { content = take slot.pointer.key.len bytes }
+
 -- each part of what is named by and by is named at the end
 module _ (image c : Image) (count : length c ≡ length image) where
   reads_kept : (before : List ℕ) (root : Option PagePtr) (after : List ℕ) (records : List (List ℕ)) → Reads image before root after records → SameIn image c after → Reads c before root after records
@@ -150,15 +160,6 @@ module _ (image c : Image) (count : length c ≡ length image) where
         fifth = reads_kept read.after_active (flushing_root seal) flat.named read.flushing read.fifth same;
       }
 
-  -- the pointers keep their contents where their blocks are the same
-  pointers_kept : (table : TableState) (slots : List SlotRecord) → AllByRecursion (λ slot. sector_at c slot.pointer.place ≡ sector_at image slot.pointer.place) slots → map (pointer_of image table) slots ≡ map (pointer_of c table) slots
-  pointers_kept table [] same = refl
-  pointers_kept table (slot ∷ slots) same =
-      ap (λ (bytes : List ℕ). with_block bytes ∷ map (pointer_of image table) slots) (sym same.0) ∙ ap (λ (ps : List Pointer). pointer_of c table slot ∷ ps) (pointers_kept table slots same.1)
-    where
-      with_block : List ℕ → Pointer
-      with_block bytes = record (pointer_of c table slot) { content = take slot.pointer.key.len bytes }
-
   -- so the image stands for the same pool with the same table
   pub state_kept : (tag : ℕ) (pool : Pool) (table : TableState) (state : StandsFor tag image pool table) → newest flat_version c ≡ newest flat_version image → SameIn image c state.flat.named
       → AllByRecursion (λ slot. sector_at c slot.pointer.place ≡ sector_at image slot.pointer.place) state.flat.slots → StandsFor tag c pool table
@@ -177,5 +178,5 @@ module _ (image c : Image) (count : length c ≡ length image) where
     counts = seals ∙ state.counts;
     formed = ap (λ n. is_formed tag n state.seal) count ∙ state.formed;
     read = read_kept state.seal state.flat state.read pages;
-    pool_is = state.pool_is ∙ ap (λ (ps : List Pointer). record { pointers = ps; modes = modes_in state.seal; quota = quota_in state.seal; group = state.seal.group }) (pointers_kept (table_in state.seal state.flat) state.flat.slots blocks);
+    pool_is = state.pool_is ∙ ap (λ (ps : List Pointer). record { pointers = ps; modes = modes_in state.seal; quota = quota_in state.seal; group = state.seal.group }) (pointers_kept image c (table_in state.seal state.flat) state.flat.slots blocks);
   }

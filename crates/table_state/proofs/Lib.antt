@@ -2,8 +2,12 @@ pub mod Created
 pub mod FlatLaws
 pub mod Kept
 pub mod Lists
+pub mod SealBack
 pub mod SlotLaws
+pub mod SlotsAfter
 pub mod Sorted
+pub mod Spelled
+pub mod Stands
 pub mod Syncing
 pub mod TableBack
 pub mod TablePuts

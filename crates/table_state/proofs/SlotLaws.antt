@@ -94,7 +94,7 @@ kind_back h rest fits =
 seven : (a b c d e f g : Bool) → a ≡ true → b ≡ true → c ≡ true → d ≡ true → e ≡ true → f ≡ true → g ≡ true → a && b && c && d && e && f && g ≡ true
 seven a b c d e f g ha hb hc hd he hf hg = rw (ha, hb, hc, hd, he, hf, hg) refl
 
-is_slot-true : (sectors group : ℕ) (h : SlotRecord) → IsSlot sectors group h → is_slot sectors group h ≡ true
+pub is_slot-true : (sectors group : ℕ) (h : SlotRecord) → IsSlot sectors group h → is_slot sectors group h ≡ true
 is_slot-true sectors group h is =
     let len : leb 1 h.pointer.key.len && leb h.pointer.key.len 4_096 ≡ true = and_from (leb 1 h.pointer.key.len) (leb h.pointer.key.len 4_096) (le-leb 1 h.pointer.key.len is.len.0) (le-leb h.pointer.key.len 4_096 is.len.1) in
     seven (leb h.lane 15) (leb h.slot 65_535) (leb 1 h.pointer.key.len && leb h.pointer.key.len 4_096) (leb 32 h.pointer.place) (ltb h.pointer.place sectors) (leb 1 h.pointer.birth) (leb h.pointer.birth group)
@@ -111,7 +111,7 @@ each_of a b c d e f g all =
     let to_a = and_parts a b to_b.0 in
     (to_a.0, to_a.1, to_b.1, to_c.1, to_d.1, to_e.1, to_f.1)
 
-is_slot-from : (sectors group : ℕ) (h : SlotRecord) → is_slot sectors group h ≡ true → IsSlot sectors group h
+pub is_slot-from : (sectors group : ℕ) (h : SlotRecord) → is_slot sectors group h ≡ true → IsSlot sectors group h
 is_slot-from sectors group h e =
     let each = each_of (leb h.lane 15) (leb h.slot 65_535) (leb 1 h.pointer.key.len && leb h.pointer.key.len 4_096) (leb 32 h.pointer.place) (ltb h.pointer.place sectors) (leb 1 h.pointer.birth) (leb h.pointer.birth group) e in
     let len = and_parts (leb 1 h.pointer.key.len) (leb h.pointer.key.len 4_096) each.2 in
@@ -198,7 +198,7 @@ was_written sectors group bytes h fits long e =
       found.1.2,
     )
 
-AreBytes-replicate : (n : ℕ) → AreBytes (replicate n 0)
+pub AreBytes-replicate : (n : ℕ) → AreBytes (replicate n 0)
 AreBytes-replicate zero i = omega arith
 AreBytes-replicate (suc n) zero = omega arith
 AreBytes-replicate (suc n) (suc i) = AreBytes-replicate n i

@@ -1,11 +1,12 @@
 -- What a group's sync writes: the records of the five chains, and the seal.
-use Rattle.std.specs.Prelude.{◌≡◌, ℕ, ◌≤◌, ◌<◌, Bool, true, List, [], ◌∷◌, ◌++◌, length, map, replicate, sum_by, Option, Some, None}
+use Rattle.std.specs.Prelude.{◌≡◌, ℕ, ◌≤◌, true, List, [], ◌∷◌, ◌++◌, length, map, replicate, sum_by, Option, Some, None, IfSome}
 use Rattle.std.specs.List.{AllByRecursion, flat_map}
 use Rattle.ddt_entry.specs.Changes.{key_in}
-use Rattle.ddt_entry.specs.Records.{record_bytes, Fits as ChangeFits}
+use Rattle.ddt_entry.specs.Records.{record_bytes, IsKeyLength, Fits as ChangeFits}
 use Rattle.ddt_entry.specs.declared.key.Key.{Key}
 use Rattle.ddt_entry.specs.declared.entry.Entry.{Entry}
 use Rattle.ddt_entry.specs.declared.entry.Change.TheVariants as changes
+use Rattle.ddt_entry.specs.declared.entry.Pointer.{Pointer as SlotPointer}
 use Rattle.disk_model.specs.Images.{Image, sector_at}
 use Rattle.page_tree.specs.Chains.{Chain, chain_of, pages_for, pointer_or_null, HoldsWrites, AreOpen}
 use Rattle.page_tree.specs.Pointers.{null_pointer}
@@ -13,6 +14,7 @@ use Rattle.page_tree.specs.declared.pointer.PagePtr.{PagePtr}
 use Rattle.uber_ring.specs.Ring.{newest}
 use Rattle.uber_ring.specs.declared.seal.Seal.{Seal}
 use Rattle.pool_model.specs.declared.commands.Mode.{Mode}
+use Rattle.pool_model.specs.declared.closed.SlotChange.{SlotChange}
 use Rattle.pool_model.specs.Pool.{Pool, Pairwise, IsWellFormed}
 use Rattle.pool_model.specs.Plain.{Stored}
 use Rattle.pool_model.specs.Table.{TableState, Matches, waiting_in}
@@ -20,7 +22,7 @@ use Rattle.table_state.specs.SealForms.{mode_byte, fewest_sectors, most_sectors,
 use Rattle.table_state.specs.SlotRecords.{slot_bytes, is_slot, FitsSlot}
 use Rattle.table_state.specs.Flat.{Flat, flat_version, counted_homes, stands_before, IsClear}
 use Rattle.table_state.specs.Tables.{IsTable, IsTableWithin, unique_in, duplicate_in}
-use Rattle.table_state.specs.Pools.{with_blocks, pool_after}
+use Rattle.table_state.specs.Pools.{with_blocks}
 use Rattle.table_state.specs.declared.slot_record.SlotRecord.{SlotRecord}
 
 -- a chain that is to be written: its records, and a place for each page
@@ -111,7 +113,20 @@ pub record CanBeKept (sectors group : ℕ) (slots : List SlotRecord) (table : Ta
   pub zap_fits : AllByRecursion (λ entry. ChangeFits (changes.Entry entry)) table.zap
   pub flush_fits : AllByRecursion ChangeFits table.flush
   pub active_fits : AllByRecursion ChangeFits table.active
+  pub zap_lengths : AllByRecursion (λ entry. IsKeyLength entry.key.len) table.zap
+  pub flush_lengths : AllByRecursion (λ change. IsKeyLength (key_in change).len) table.flush
+  pub active_lengths : AllByRecursion (λ change. IsKeyLength (key_in change).len) table.active
   pub checkpoint : table.flush ≡ [] → table.checkpoint ≡ None
+
+-- the slot that a change makes of a pointer
+abbrev pub changed_slot : SlotChange → SlotPointer → SlotRecord
+changed_slot change pointer = record { lane = change.lane; slot = change.slot; pointer = pointer }
+
+-- a change of a slot that there is, to a pointer in its ranges that has a spelling, or to none
+pub record ChangesSlotWithin (sectors group : ℕ) (change : SlotChange) : Type 0 where
+  pub lane : change.lane ≤ 15
+  pub slot : change.slot ≤ 65_535
+  pub pointer : IfSome change.pointer (λ pointer. (is_slot sectors group (changed_slot change pointer) ≡ true) × FitsSlot (changed_slot change pointer))
 
 -- the pool and the table that an image has to stand for, and no block in a page's sector
 pub record CanStand (sectors : ℕ) (places : List ℕ) (pool : Pool) (table : TableState) : Type 0 where
@@ -129,3 +144,10 @@ pub record AreParts (sectors : ℕ) (slots : List SlotRecord) (table : TableStat
 -- the blocks of these slots stand in an image as they stand in another
 abbrev pub SameBlocks : (image c : Image) → List SlotRecord → Type 0
 SameBlocks image c slots = AllByRecursion (λ slot. sector_at c slot.pointer.place ≡ sector_at image slot.pointer.place) slots
+
+-- an image after a group's sync: the group's seal counts, its chains are there, and the blocks of its slots stand as in the old image with the group's blocks
+pub record IsSealedImage (tag sectors group : ℕ) (image c : Image) (slots : List SlotRecord) (table : TableState) (modes : List Mode) (quota : Option ℕ) (contents : List Stored) (parts : List ChainPart) : Type 0 where
+  pub counts : newest flat_version c ≡ Some (seal_of tag sectors group modes quota table (roots_of parts) (length (places_in parts)))
+  pub there : sectors ≤ length c
+  pub held : HoldsParts c parts
+  pub blocks : SameBlocks (with_blocks contents image) c slots

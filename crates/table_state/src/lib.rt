@@ -8,7 +8,9 @@
 //!
 //! The laws say that an image stands for one pool at the most, and that this hangs on nothing but the
 //! seal, the pages that it names and the blocks of its pointers. So a sync that writes elsewhere leaves
-//! it, and needs no word about bytes. `seal_form` judges a seal, `slot_record` is the record of a slot.
+//! it, and needs no word about bytes. And once the seal of a group counts, over the chains and blocks
+//! that `specs/Sealed.antt` says, the image stands for the pool of the group. `seal_form` judges a seal,
+//! `slot_record` is the record of a slot.
 #![tactic(auto)]
 
 mod laws;
@@ -21,7 +23,10 @@ mod slot_record;
 #[cfg(test)]
 mod slot_record_tests;
 
-pub use laws::{a_new_image_is_empty, an_image_hangs_on_what_it_names, one_pool_for_an_image};
+pub use laws::{
+    a_new_image_is_empty, a_sealed_image_stands_for_its_pool, an_image_hangs_on_what_it_names,
+    one_pool_for_an_image,
+};
 pub use pool::{Pool, SlotList};
 pub use seal_form::{LAST_GROUP, MOST_SECTORS, is_formed, new_seal};
 pub use setting::{byte_of, mode_of, modes_read_back};
