@@ -1,0 +1,51 @@
+-- What a sync is going to write, before anything is written: the pool after the group, its chains with their places, and the seal.
+use Rattle.std.specs.Prelude.{◌≡◌, ℕ, ◌+◌, true, false, ◌==◌, List, [], length, map, slice_index_or, Option}
+use Rattle.std.specs.List.{AllByRecursion, list_any}
+use Rattle.ddt_entry.specs.declared.entry.Change.{Change}
+use Rattle.page_tree.specs.Chains.{pages_for, AreOpen}
+use Rattle.pool_model.specs.declared.commands.Mode.{Mode}
+use Rattle.pool_model.specs.declared.closed.Closed.{Closed}
+use Rattle.pool_model.specs.declared.closed.SlotChange.{SlotChange}
+use Rattle.pool_model.specs.Plain.{Stored, stored_of}
+use Rattle.pool_model.specs.Space.{used_sectors}
+use Rattle.pool_model.specs.Table.{sync_table}
+use Rattle.uber_ring.specs.declared.seal.Seal.{Seal}
+use Rattle.table_state.specs.Pools.{Held, slots_after, pool_after}
+use Rattle.table_state.specs.Sealed.{ChainPart, places_in, records_in, seal_of}
+
+-- what a group leaves to its sync, without the room of its lists
+pub record Group : Type 0 where
+  pub log : List Change
+  pub slots : List SlotChange
+  pub contents : List Stored
+  pub modes : List Mode
+  pub quota : Option ℕ
+
+abbrev pub group_in : Closed → Group
+group_in closed = record { log = closed.changes.items; slots = closed.slots.items; contents = map stored_of closed.contents.items; modes = closed.modes; quota = closed.quota }
+
+-- the pool in memory after the group, whose image has these pages
+pub record IsNext (held : Held) (group : Group) (pages : List ℕ) (next : Held) : Type 0 where
+  pub slots_are : next.slots ≡ slots_after group.slots held.slots
+  pub table_is : next.table ≡ sync_table group.log held.table
+  pub pages_are : next.pages ≡ pages
+  pub used_are : next.used ≡ used_sectors held.sectors pages (pool_after [] [] next.slots next.table group.modes group.quota (held.group + 1)) next.table
+  pub modes_are : next.modes ≡ group.modes
+  pub quota_is : next.quota ≡ group.quota
+  pub tag_is : next.tag ≡ held.tag
+  pub group_is : next.group ≡ held.group + 1
+  pub sectors_are : next.sectors ≡ held.sectors
+
+-- chains of these slots and this table, each page at a place of its own that nothing uses, not even a block of the group
+pub record ArePlanned (held : Held) (group : Group) (next : Held) (parts : List ChainPart) : Type 0 where
+  pub spelled : map (λ part. part.records) parts ≡ records_in next.slots next.table
+  pub pages : AllByRecursion (λ part. length part.places ≡ pages_for (length part.records)) parts
+  pub places_open : AreOpen held.sectors [] (places_in parts)
+  pub unused : AllByRecursion (λ place. slice_index_or held.used place true ≡ false) (places_in parts)
+  pub no_block : AllByRecursion (λ place. list_any (λ stored. stored.place == place) group.contents ≡ false) (places_in parts)
+
+-- a plan: the pool after the group, its chains, and the seal, whose roots are known once the pages are written
+pub record IsPlan (held : Held) (group : Group) (next : Held) (parts : List ChainPart) (seal : Seal) : Type 0 where
+  pub is_next : IsNext held group (places_in parts) next
+  pub planned : ArePlanned held group next parts
+  pub seal_is : seal ≡ seal_of held.tag held.sectors (held.group + 1) group.modes group.quota next.table [] (length (places_in parts))
