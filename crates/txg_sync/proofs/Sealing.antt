@@ -13,11 +13,11 @@ use Rattle.txg_sync.specs.Stages.{TakingLeaves, IsTaken, Takes, Beginning, Begin
 use Rattle.txg_sync.proofs.Beginnings.{beginning_taking, beginning_body, beginning_gate, begun_opened}
 
 -- told contents after a write
-holds_some : (image : Image) (old new : Option Image) (at : ℕ) (bytes : List ℕ) → old ≡ Some image → Holds old new at bytes → new ≡ Some (slice_set image at bytes)
+pub holds_some : (image : Image) (old new : Option Image) (at : ℕ) (bytes : List ℕ) → old ≡ Some image → Holds old new at bytes → new ≡ Some (slice_set image at bytes)
 holds_some image old new at bytes told held = subst (λ (o : Option Image). Holds o new at bytes) told held
 
 -- the only outcome where nothing is pending
-only_told : (image : Image) (told : Option Image) (may_leave : Image → Type 0) → told ≡ Some image → NothingPending told may_leave → (c : Image) → may_leave c → c ≡ image
+pub only_told : (image : Image) (told : Option Image) (may_leave : Image → Type 0) → told ≡ Some image → NothingPending told may_leave → (c : Image) → may_leave c → c ≡ image
 only_told image told may_leave same still = (subst (λ (o : Option Image). NothingPending o may_leave) same still).1
 
 -- a new seal's body, told of the seal's fields

@@ -1,0 +1,145 @@
+-- What the stages of a group's sync come to, one after another, where the disk tells its contents and where it doesn't.
+use Rattle.std.proofs.Common.{◌≡◌, ℕ, zero, suc, ◌+◌, ◌<◌, ◌≤◌, List, [], ◌∷◌, ◌++◌, Option, Some, None, length, map, drop, get_or, refl, sym, ap, subst, ◌∙◌, arith, inl, inr}
+use Rattle.std.specs.Prelude.{slice_set, unwrap_or, replicate}
+use Rattle.std.specs.List.{AllByRecursion}
+use Rattle.disk_model.specs.Images.{Image, IsImage, TellsImage, Holds}
+use Rattle.disk_model.specs.Crashes.{LeavesOnly, NothingPending}
+use Rattle.disk_model.proofs.Moments.{and_then, weakened}
+use Rattle.page_tree.specs.Chains.{SameBut, ChainLeaves, AreOpen}
+use Rattle.page_tree.proofs.OpenPlaces.{is_open-parts}
+use Rattle.page_tree.specs.Pointers.{null_pointer}
+use Rattle.page_tree.specs.declared.pointer.PagePtr.{PagePtr}
+use Rattle.uber_ring.specs.Seals.{FitsSeal, body_bytes, open_gate}
+use Rattle.uber_ring.specs.Ring.{slot_of, fewest_sectors, gate_sector, body_sector, newest, WritingLeaves, OpeningLeaves, GateTorn, BodyTorn}
+use Rattle.uber_ring.specs.declared.seal.Seal.{Seal}
+use Rattle.pool_model.specs.declared.closed.StoredBlock.{StoredBlock}
+use Rattle.pool_model.specs.Plain.{Stored, stored_of}
+use Rattle.table_state.specs.Flat.{flat_version}
+use Rattle.table_state.specs.Sealed.{ChainPart, places_in, roots_of}
+use Rattle.txg_sync.specs.Stages.{TakingLeaves, IsTaken, Takes}
+use Rattle.txg_sync.specs.Writing.{block_places, group_places, with_roots, IsStored, StoresParts, IsUnsealed, IsSealed, MayBeSealed, Seals, FollowsSeal}
+use Rattle.txg_sync.proofs.Filling.{AreBehindRing, unsealed_taking, unsealed_stored, unsealed_body, sealed_gate, sealed_opened}
+use Rattle.txg_sync.proofs.Sealing.{holds_some, only_told}
+
+-- a fact of each index is one of each element
+pub each_of : {X : Type 0} (P : X → Type 0) (xs : List X) → ((k : ℕ) (d : X) → k < length xs → P (get_or xs k d)) → AllByRecursion P xs
+each_of P [] at = tt
+each_of P (x ∷ xs) at = (at zero x (omega arith), each_of P xs (λ k d within. at (suc k) d (omega (arith, within))))
+
+pub each_mapped : {X Y : Type 0} (P : Y → Type 0) (f : X → Y) (xs : List X) → AllByRecursion (λ x. P (f x)) xs → AllByRecursion P (map f xs)
+each_mapped P f [] all = tt
+each_mapped P f (x ∷ xs) all = (all.0, each_mapped P f xs all.1)
+
+both_lists : (P : ℕ → Type 0) (xs ys : List ℕ) → AllByRecursion P xs → AllByRecursion P ys → AllByRecursion P (xs ++ ys)
+both_lists P [] ys first second = second
+both_lists P (x ∷ xs) ys first second = (first.0, both_lists P xs ys first.1 second)
+
+open_behind : (sectors : ℕ) (named places : List ℕ) → AreOpen sectors named places → AreBehindRing places
+open_behind sectors named [] all = tt
+open_behind sectors named (place ∷ places) all = ((is_open-parts sectors named place all.0).from, open_behind sectors (named ++ place ∷ []) places all.1)
+
+-- blocks and pages lie behind the ring
+pub group_behind : (sectors : ℕ) (contents : List StoredBlock) (parts : List ChainPart) → ((k : ℕ) (d : StoredBlock) → k < length contents → 32 ≤ (get_or contents k d).place) → AreOpen sectors [] (places_in parts) → AreBehindRing (group_places (map stored_of contents) parts)
+group_behind sectors contents parts behind places =
+    both_lists (λ place. 32 ≤ place) (block_places (map stored_of contents)) (places_in parts)
+    (each_mapped (λ place. 32 ≤ place) (λ (s : Stored). s.place) (map stored_of contents) (each_mapped (λ (s : Stored). 32 ≤ s.place) stored_of contents (each_of (λ (s : StoredBlock). 32 ≤ s.place) contents behind)))
+    (open_behind sectors [] (places_in parts) places)
+
+-- blocks lie on the disk
+pub group_within : (sectors : ℕ) (contents : List StoredBlock) → ((k : ℕ) (d : StoredBlock) → k < length contents → (get_or contents k d).place < sectors) → AllByRecursion (λ stored. stored.place < sectors) (map stored_of contents)
+group_within sectors contents within = each_mapped (λ (s : Stored). s.place < sectors) stored_of contents (each_of (λ (s : StoredBlock). s.place < sectors) contents within)
+
+-- the pointers that were written are the seal's
+pub rooted_is : (seal sealed : Seal) (parts : List ChainPart) (pointers initial : List PagePtr) → sealed ≡ record seal { pointers = pointers } → pointers ≡ roots_of parts ++ drop (length parts) initial → length parts ≡ 5 → drop 5 initial ≡ null_pointer ∷ []
+    → sealed ≡ with_roots seal parts
+rooted_is seal sealed parts pointers initial is roots five rest =
+    is ∙ ap (λ (ps : List PagePtr). record seal { pointers = ps }) (roots ∙ ap (λ n. roots_of parts ++ drop n initial) five ∙ ap (λ (ps : List PagePtr). roots_of parts ++ ps) rest)
+
+module _ (sectors : ℕ) (enough : fewest_sectors ≤ sectors) (seal : Seal) (contents : List Stored) (parts : List ChainPart) (behind_ring : AreBehindRing (group_places contents parts)) (on_disk : AllByRecursion (λ stored. stored.place < sectors) contents) where
+  abbrev slot : ℕ
+  slot = slot_of seal.group
+
+  abbrev rooted : Seal
+  rooted = with_roots seal parts
+
+  -- all stages succeeded
+  pub seals_of : (own_version : seal.version ≡ flat_version) (sealed : Seal) (is_sealed : sealed ≡ with_roots seal parts) (fits : FitsSeal sealed) (old mid later filled new : Option Image) → TellsImage sectors old → FollowsSeal seal.group old → Takes slot old mid → StoresParts contents parts mid later → TellsImage sectors later
+      → Holds later filled (body_sector (slot_of sealed.group)) (body_bytes sealed) → Holds filled new (gate_sector slot) open_gate → Seals slot contents parts rooted old new
+  seals_of own_version sealed is_sealed fits None mid later filled new is follows takes stores whole fills opens = tt
+  seals_of own_version sealed is_sealed fits (Some image) mid later filled new is follows takes stores whole fills opens =
+      let taken : Image = takes.0 in
+      let stores_here : StoresParts contents parts (Some taken) later = subst (λ (o : Option Image). StoresParts contents parts o later) takes.1 stores in
+      let stored : Image = stores_here.0 in
+      let fills_here : Holds later filled (body_sector slot) (body_bytes rooted) = subst (λ (s : Seal). Holds later filled (body_sector (slot_of s.group)) (body_bytes s)) is_sealed fills in
+      let seen_filled = holds_some stored later filled (body_sector slot) (body_bytes rooted) stores_here.1 fills_here in
+      let is_whole : IsImage sectors stored = subst (λ (o : Option Image). TellsImage sectors o) stores_here.1 whole in (
+        slice_set (slice_set stored (body_sector slot) (body_bytes rooted)) (gate_sector slot) open_gate,
+        holds_some _ filled new _ _ seen_filled opens,
+        sealed_opened seal.group sectors image is enough follows.0 follows.1 follows.2 contents parts behind_ring on_disk taken takes.2 stored stores_here.2.only stores_here.2 rooted (subst FitsSeal is_sealed fits) refl own_version is_whole,
+      )
+
+  module _ {D : Type 0} (clock : D → ℕ) (left_since : D → ℕ → Image → Type 0) (may_leave : D → Image → Type 0) (seen : D → Option Image) (image : Image) (old : D) (told : seen old ≡ Some image) (tells : TellsImage sectors (seen old)) (follows_old : FollowsSeal seal.group (seen old)) where
+    is : IsImage sectors image
+    is = subst (λ (o : Option Image). TellsImage sectors o) told tells
+
+    follows : FollowsSeal seal.group (Some image)
+    follows = subst (FollowsSeal seal.group) told follows_old
+
+    abbrev P : Image → Type 0
+    P = MayBeSealed slot contents parts rooted image
+
+    -- while the slot is taken
+    pub group_taking : (mid : D) → LeavesOnly clock left_since old mid (TakingLeaves slot image) → LeavesOnly clock left_since old mid P
+    group_taking mid run =
+        weakened clock left_since old mid (TakingLeaves slot image) P run (λ c taking. inl (unsealed_taking seal.group sectors image is enough follows.0 follows.1 follows.2 contents parts behind_ring on_disk c taking))
+
+    module _ (mid : D) (taking : LeavesOnly clock left_since old mid (TakingLeaves slot image)) (takes : Takes slot (seen old) (seen mid)) (still : NothingPending (seen mid) (may_leave mid)) where
+      taken : (taken : Image) × (seen mid ≡ Some taken) × IsTaken slot image taken
+      taken = subst (λ (o : Option Image). Takes slot o (seen mid)) told takes
+
+      -- while blocks and pages are written
+      pub group_storing : (later : D) → LeavesOnly clock left_since mid later (ChainLeaves (group_places contents parts) (may_leave mid)) → LeavesOnly clock left_since old later P
+      group_storing later storing =
+          and_then clock left_since old mid later P (group_taking mid taking)
+          (weakened clock left_since mid later (ChainLeaves (group_places contents parts) (may_leave mid)) P storing
+          (λ c from. inl (unsealed_stored seal.group sectors image is enough follows.0 follows.1 follows.2 contents parts behind_ring on_disk taken.0 taken.2 c (stored_from c from))))
+        where
+          stored_from : (c : Image) → ChainLeaves (group_places contents parts) (may_leave mid) c → SameBut (group_places contents parts) taken.0 c
+          stored_from c from = subst (λ (d : Image). SameBut (group_places contents parts) d c) (only_told taken.0 (seen mid) (may_leave mid) taken.1 still from.0 from.1) from.2
+
+      module _ (later : D) (storing : LeavesOnly clock left_since mid later (ChainLeaves (group_places contents parts) (may_leave mid))) (at_end : (c : Image) → may_leave later c → ChainLeaves (group_places contents parts) (may_leave mid) c)
+          (own_version : seal.version ≡ flat_version) (sealed : Seal) (is_sealed : sealed ≡ with_roots seal parts) (fits : FitsSeal sealed) where
+        -- while the body is written
+        pub group_filling : (filled : D) → LeavesOnly clock left_since later filled (WritingLeaves (slot_of sealed.group) (may_leave later)) → LeavesOnly clock left_since old filled P
+        group_filling filled filling =
+            and_then clock left_since old later filled P (group_storing later storing)
+            (weakened clock left_since later filled (WritingLeaves (slot_of sealed.group) (may_leave later)) P filling each)
+          where
+            each : (c : Image) → WritingLeaves (slot_of sealed.group) (may_leave later) c → P c
+            each c from =
+                let earlier = at_end from.0 from.1 in
+                inl (unsealed_body seal.group sectors image is enough follows.0 follows.1 follows.2 contents parts behind_ring on_disk taken.0 taken.2 from.0
+                (subst (λ (d : Image). SameBut (group_places contents parts) d from.0) (only_told taken.0 (seen mid) (may_leave mid) taken.1 still earlier.0 earlier.1) earlier.2)
+                c (subst (λ (s : Seal). BodyTorn (slot_of s.group) from.0 c) is_sealed from.2))
+
+        -- while the gate is opened
+        pub group_opening : (filled new : D) → LeavesOnly clock left_since later filled (WritingLeaves (slot_of sealed.group) (may_leave later)) → StoresParts contents parts (seen mid) (seen later) → TellsImage sectors (seen later)
+            → Holds (seen later) (seen filled) (body_sector (slot_of sealed.group)) (body_bytes sealed) → NothingPending (seen filled) (may_leave filled) → LeavesOnly clock left_since filled new (OpeningLeaves slot (may_leave filled)) → LeavesOnly clock left_since old new P
+        group_opening filled new filling stores whole fills still_filled opening =
+            and_then clock left_since old filled new P (group_filling filled filling)
+            (weakened clock left_since filled new (OpeningLeaves slot (may_leave filled)) P opening each)
+          where
+            stores_here : StoresParts contents parts (Some taken.0) (seen later)
+            stores_here = subst (λ (o : Option Image). StoresParts contents parts o (seen later)) taken.1 stores
+
+            fills_here : Holds (seen later) (seen filled) (body_sector slot) (body_bytes rooted)
+            fills_here = subst (λ (s : Seal). Holds (seen later) (seen filled) (body_sector (slot_of s.group)) (body_bytes s)) is_sealed fills
+
+            seen_filled : seen filled ≡ Some (slice_set stores_here.0 (body_sector slot) (body_bytes rooted))
+            seen_filled = holds_some stores_here.0 (seen later) (seen filled) (body_sector slot) (body_bytes rooted) stores_here.1 fills_here
+
+            each : (c : Image) → OpeningLeaves slot (may_leave filled) c → P c
+            each c from =
+                sealed_gate seal.group sectors image is enough follows.0 follows.1 follows.2 contents parts behind_ring on_disk taken.0 taken.2 stores_here.0 stores_here.2.only stores_here.2 rooted (subst FitsSeal is_sealed fits) refl own_version
+                (subst (λ (o : Option Image). TellsImage sectors o) stores_here.1 whole) c
+                (subst (λ (d : Image). GateTorn slot d c) (only_told _ (seen filled) (may_leave filled) seen_filled still_filled from.0 from.1) from.2)
