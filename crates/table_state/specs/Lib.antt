@@ -4,3 +4,4 @@ pub mod SlotRecords
 pub mod Pools
 pub mod Tables
 pub mod Sealed
+pub mod Sound

@@ -1,0 +1,31 @@
+-- What holds of a pool in memory whatever the disk tells: its numbers are in their ranges.
+use Rattle.std.specs.Prelude.{◌≡◌, ◌<◌, ◌≤◌, ℕ, true, List, length, slice_index_or}
+use Rattle.std.specs.List.{AllByRecursion}
+use Rattle.ddt_entry.specs.Changes.{key_in}
+use Rattle.ddt_entry.specs.Records.{IsKeyLength}
+use Rattle.ddt_entry.specs.declared.entry.Change.{Change}
+use Rattle.pool_model.specs.Table.{TableState}
+use Rattle.table_state.specs.Pools.{Held}
+use Rattle.table_state.specs.SealForms.{fewest_sectors, most_sectors, last_group}
+use Rattle.table_state.specs.SlotRecords.{is_slot}
+use Rattle.table_state.specs.Tables.{IsTableWithin}
+
+abbrev pub HasLength : Change → Type 0
+HasLength change = IsKeyLength (key_in change).len
+
+-- each key of a table has a length that a key can have
+pub record HasKeyLengths (table : TableState) : Type 0 where
+  pub zap : AllByRecursion (λ entry. IsKeyLength entry.key.len) table.zap
+  pub flush : AllByRecursion HasLength table.flush
+  pub active : AllByRecursion HasLength table.active
+
+pub record IsSound (held : Held) : Type 0 where
+  pub enough : fewest_sectors ≤ held.sectors
+  pub few : held.sectors ≤ most_sectors
+  pub first : 1 ≤ held.group
+  pub last : held.group ≤ last_group
+  pub used_len : length held.used ≡ held.sectors
+  pub ring : (sector : ℕ) → sector < 32 → slice_index_or held.used sector true ≡ true
+  pub slots_within : AllByRecursion (λ slot. is_slot held.sectors held.group slot ≡ true) held.slots
+  pub within : IsTableWithin held.sectors held.group held.table
+  pub lengths : HasKeyLengths held.table
