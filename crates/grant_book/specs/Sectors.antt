@@ -1,6 +1,6 @@
 -- Which sectors of a pool are used: a note for each sector, in the order of their numbers.
-use Rattle.std.specs.Prelude.{◌≡◌, ℕ, ◌+◌, ◌<◌, Bool, not, List, [], ◌∷◌, length, take, Option, Some, None, if◌then◌else◌}
-use Rattle.std.specs.List.{count_by}
+use Rattle.std.specs.Prelude.{◌≡◌, ℕ, ◌+◌, ◌<◌, nat_lt, Bool, true, not, List, [], ◌∷◌, length, map, take, slice_set, Option, Some, None, if◌then◌else◌}
+use Rattle.std.specs.List.{count_by, range_with_len}
 use Rattle.reserved_list.specs.Listed.{Listed}
 
 -- the sectors that aren't used, in rising order, where the first note is that of this sector
@@ -21,3 +21,14 @@ pub record AreFirstFree (used : List Bool) (wanted : ℕ) (places : List ℕ) : 
 abbrev pub FindsFree : List Bool → (wanted : ℕ) → Option (Listed ℕ) → Type 0
 FindsFree used wanted None = count_by not used < wanted
 FindsFree used wanted (Some places) = AreFirstFree used wanted places.items
+
+-- ---- Which sectors are used from now on
+
+-- the sectors with these used too; one past the end changes nothing
+abbrev pub marked : List Bool → (sectors : List ℕ) → List Bool
+marked used [] = used
+marked used (sector ∷ sectors) = marked (slice_set used sector true) sectors
+
+-- a pool of which nothing is used but the ring's sectors, the first 32
+abbrev pub ring_used : (sectors : ℕ) → List Bool
+ring_used sectors = map (λ sector. nat_lt sector 32) (range_with_len 0 sectors)

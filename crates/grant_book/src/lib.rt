@@ -2,13 +2,14 @@
 //!
 //! A `SectorSet` notes for each sector whether it is used. Who marks a sector, and when it may be let
 //! go, is the affair of the crates above; here stands only that a place that is given out was free.
+//! `with_ring` begins a set in which the ring is used, and `mark_all` uses more.
 //! `free_places` gives the first free sectors in rising order, as many as were wanted, or says that
 //! there are fewer. It marks none of them.
 #![tactic(auto)]
 
-ghost use Rattle.std.specs.Prelude.{◌≡◌, ◌+◌, ◌<◌, ◌≤◌, ◌++◌, false, not, length, drop, replicate, slice_index_or, slice_set, IfOk};
+ghost use Rattle.std.specs.Prelude.{◌≡◌, ◌+◌, ◌<◌, ◌≤◌, ◌++◌, true, false, not, length, drop, replicate, slice_index_or, slice_set, IfOk};
 ghost use Rattle.std.specs.List.{count_by};
-ghost use Rattle.grant_book.specs.Sectors.{free_from, FindsFree};
+ghost use Rattle.grant_book.specs.Sectors.{free_from, marked, ring_used, FindsFree};
 
 use reserved_list::ReservedList;
 use std::alloc::{AllocError, Global};
@@ -40,6 +41,26 @@ impl SectorSet {
         Ok(SectorSet { used })
     }
 
+    /// A pool of so many sectors, of which the ring's are used. The error is want of memory.
+    pub fn with_ring(alloc: Global, sectors: u64) -> Result<Self, AllocError>
+        requires { 32 ≤ sectors }
+        ensures { IfOk result (λ set. set ≡ ring_used sectors) }
+    {
+        let mut used = SectorSet::new(alloc, sectors)?;
+        'ring: for sector in 0..32 {
+            used.set(sector, true);
+        }
+        Ok(used)
+    }
+
+    /// Another set that says the same. The error is want of memory.
+    pub fn copied(&self, alloc: Global) -> Result<Self, AllocError>
+        ensures { IfOk result (λ copy. copy ≡ self.now) }
+    {
+        let used = Vec::from_slice(alloc, self.used.as_slice())?;
+        Ok(SectorSet { used })
+    }
+
     /// How many sectors the pool has.
     pub fn len(&self) -> u64
         ensures { result ≡ length self.now }
@@ -61,6 +82,25 @@ impl SectorSet {
         ensures { self.new ≡ slice_set self.old sector used }
     {
         self.used[sector as usize] = used;
+    }
+
+    /// A sector is used from now on, unless it lies past the end.
+    pub fn mark(&mut self, sector: u64)
+        ensures { self.new ≡ slice_set self.old sector true }
+    {
+        if sector >= self.len() {
+            return;
+        }
+        self.set(sector, true);
+    }
+
+    /// These sectors are used from now on. Those past the end change nothing.
+    pub fn mark_all(&mut self, sectors: &[u64])
+        ensures { self.new ≡ marked self.old sectors.now }
+    {
+        'sectors: for sector in sectors {
+            self.mark(*sector);
+        }
     }
 
     /// How many sectors aren't used.
@@ -160,6 +200,30 @@ mod tests {
         let empty = SectorSet::new(rt.alloc(), 0)?;
         assert_eq!(rt; empty.free(), 0);
         assert!(rt; empty.free_places(rt.alloc(), 1)?.is_none());
+        Ok(())
+    }
+
+    #[test]
+    fn the_ring_and_what_is_marked_are_used(rt: HostRuntime) -> Result<(), Fail> {
+        let mut set = SectorSet::with_ring(rt.alloc(), 36)?;
+        assert_eq!(rt; set.len(), 36);
+        let before = set.copied(rt.alloc())?;
+        set.mark(33);
+        set.mark(36);
+        set.mark_all([35, 0, 40, 35].as_slice());
+        for (sector, first, then) in [
+            (0, true, true),
+            (31, true, true),
+            (32, false, false),
+            (33, false, true),
+            (34, false, false),
+            (35, false, true),
+        ] {
+            assert_eq!(rt; is_used(&rt, &before, sector), first, "sector {sector} before");
+            assert_eq!(rt; is_used(&rt, &set, sector), then, "sector {sector} then");
+        }
+        assert_eq!(rt; set.len(), 36);
+        assert_eq!(rt; (before.free(), set.free()), (4, 2));
         Ok(())
     }
 

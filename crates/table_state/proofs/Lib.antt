@@ -12,3 +12,4 @@ pub mod Syncing
 pub mod TableBack
 pub mod TablePuts
 pub mod TableRoom
+pub mod UsedLaws

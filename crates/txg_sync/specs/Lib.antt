@@ -2,3 +2,4 @@ pub mod Stages
 pub mod Writing
 pub mod Planning
 pub mod Syncing
+pub mod Placing

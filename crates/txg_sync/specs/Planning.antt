@@ -1,8 +1,10 @@
 -- What a sync is going to write, before anything is written: the pool after the group, its chains with their places, and the seal.
-use Rattle.std.specs.Prelude.{◌≡◌, ℕ, ◌+◌, true, false, ◌==◌, List, [], length, map, slice_index_or, Option}
+use Rattle.std.specs.Prelude.{◌≡◌, ℕ, ◌+◌, true, false, ◌==◌, List, [], ◌∷◌, ◌++◌, length, map, slice_index_or, Option}
 use Rattle.std.specs.List.{AllByRecursion, list_any}
 use Rattle.ddt_entry.specs.declared.entry.Change.{Change}
 use Rattle.page_tree.specs.Chains.{pages_for, AreOpen}
+use Rattle.page_tree.specs.Pointers.{null_pointer}
+use Rattle.page_tree.specs.declared.pointer.PagePtr.{PagePtr}
 use Rattle.pool_model.specs.declared.commands.Mode.{Mode}
 use Rattle.pool_model.specs.declared.closed.Closed.{Closed}
 use Rattle.pool_model.specs.declared.closed.SlotChange.{SlotChange}
@@ -48,4 +50,4 @@ pub record ArePlanned (held : Held) (group : Group) (next : Held) (parts : List 
 pub record IsPlan (held : Held) (group : Group) (next : Held) (parts : List ChainPart) (seal : Seal) : Type 0 where
   pub is_next : IsNext held group (places_in parts) next
   pub planned : ArePlanned held group next parts
-  pub seal_is : seal ≡ seal_of held.tag held.sectors (held.group + 1) group.modes group.quota next.table [] (length (places_in parts))
+  pub seal_is : (roots : List PagePtr) → record seal { pointers = roots ++ null_pointer ∷ [] } ≡ seal_of held.tag held.sectors (held.group + 1) group.modes group.quota next.table roots (length (places_in parts))

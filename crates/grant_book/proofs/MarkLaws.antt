@@ -1,0 +1,55 @@
+-- Which sectors are used once others were marked.
+use Rattle.std.proofs.Common.{◌≡◌, ℕ, ◌+◌, ◌<◌, Bool, true, false, not, ◌||◌, ◌==◌, List, [], ◌∷◌, length, get_or, set, map, refl, sym, ap, ⊎_elim, ◌∙◌, arith}
+use Rattle.std.specs.Prelude.{nat_lt}
+use Rattle.std.specs.List.{list_any}
+use Rattle.std.proofs.lemmas.Bool.Decides.{eqb_tells}
+use Rattle.std.proofs.lemmas.List.{length-set, get_or-set_same, get_or-set_other}
+use Rattle.std.proofs.lemmas.List.FromFn.{length-map-range_with_len, get_or-map-range_with_len}
+use Rattle.grant_book.specs.Sectors.{marked, ring_used}
+
+or_true : (b : Bool) → (b || true) ≡ true
+or_true true = refl
+or_true false = refl
+
+or_false : (b : Bool) → (b || false) ≡ b
+or_false true = refl
+or_false false = refl
+
+or_swap : (a b c : Bool) → ((a || b) || c) ≡ (a || (b || c))
+or_swap true b c = refl
+or_swap false b c = refl
+
+-- ---- One sector more
+
+-- marks leave as many notes as there were
+pub length-marked : (sectors : List ℕ) (used : List Bool) → length (marked used sectors) ≡ length used
+length-marked [] used = refl
+length-marked (sector ∷ sectors) used = length-marked sectors (set used sector true) ∙ length-set used sector true
+
+-- one sector more is used
+pub set_used : (used : List Bool) (sector at : ℕ) (default : Bool) → at < length used → get_or (set used sector true) at default ≡ (get_or used at default || (sector == at))
+set_used used sector at default within =
+    ⊎_elim
+    (λ same. let here : sector < length used = omega (arith, same.1) in
+        ap (λ n. get_or (set used sector true) n default) (sym same.1) ∙ get_or-set_same used sector true default here ∙ sym (ap (λ b. get_or used at default || b) same.0 ∙ or_true (get_or used at default)))
+    (λ other. get_or-set_other used sector at true default (λ e. other.1 (sym e)) ∙ sym (ap (λ b. get_or used at default || b) other.0 ∙ or_false (get_or used at default)))
+    (eqb_tells sector at)
+
+-- ---- Many
+
+-- a sector is used after others were marked where it was used, or is one of them
+pub marked-at : (sectors : List ℕ) (used : List Bool) (at : ℕ) (default : Bool) → at < length used → get_or (marked used sectors) at default ≡ (get_or used at default || list_any (λ sector. sector == at) sectors)
+marked-at [] used at default within = sym (or_false (get_or used at default))
+marked-at (sector ∷ sectors) used at default within =
+    let yet : at < length (set used sector true) = omega (arith, length-set used sector true) in
+    marked-at sectors (set used sector true) at default yet
+    ∙ ap (λ b. b || list_any (λ s. s == at) sectors) (set_used used sector at default within)
+    ∙ or_swap (get_or used at default) (sector == at) (list_any (λ s. s == at) sectors)
+
+-- ---- The ring
+
+pub length-ring_used : (sectors : ℕ) → length (ring_used sectors) ≡ sectors
+length-ring_used sectors = length-map-range_with_len (λ sector. nat_lt sector 32) 0 sectors
+
+pub ring_used-at : (sectors at : ℕ) (default : Bool) → at < sectors → get_or (ring_used sectors) at default ≡ nat_lt at 32
+ring_used-at sectors at default within = get_or-map-range_with_len (λ sector. nat_lt sector 32) 0 sectors at at default within (omega arith)
