@@ -1,9 +1,11 @@
 -- What an image stands for hangs on nothing but the seal that counts, the pages that it names and the blocks of its pointers.
-use Rattle.std.proofs.Common.{◌≡◌, ℕ, zero, suc, Bool, true, false, ◌&&◌, ◌||◌, ◌==◌, List, [], ◌∷◌, ◌++◌, Option, Some, None, map, length, refl, sym, ap, subst, ⊎_elim, ◌∙◌, eq-eqb}
+use Rattle.std.proofs.Common.{◌≡◌, ℕ, zero, suc, Bool, true, false, ◌&&◌, ◌||◌, ◌==◌, List, [], ◌∷◌, ◌++◌, ◌≤◌, Option, Some, None, map, length, refl, sym, ap, subst, ⊎_elim, ◌∙◌, eq-eqb}
 use Rattle.std.specs.Prelude.{take, unwrap_or, if◌then◌else◌}
 use Rattle.std.specs.List.{AllByRecursion, list_any}
 use Rattle.std.specs.Str.{bytes_eq}
+use Rattle.std.proofs.lemmas.Bool.{and_parts}
 use Rattle.std.proofs.lemmas.Bool.Decides.{eqb_tells}
+use Rattle.page_tree.proofs.OpenPlaces.{is_open-parts}
 use Rattle.std.proofs.lemmas.List.Folds.{list_any-append}
 use Rattle.sha2.specs.Sha256.{sha256}
 use Rattle.disk_model.specs.Images.{Image, sector_at}
@@ -64,6 +66,31 @@ named_grows test (suc most) image sectors named pointer walked is before =
     by_step : ((w : Walked) → walk most image sectors (named ++ pointer.sector ∷ []) (next_in (sector_at image pointer.sector)) ≡ Some w → list_any test w.named ≡ true) → Step most image sectors named pointer walked → list_any test walked.named ≡ true
     by_step again (ended null same) = ap (λ (w : Walked). list_any test w.named) (sym same) ∙ before
     by_step again (went_on w null belongs rest same) = ap (λ (v : Walked). list_any test v.named) (sym same) ∙ again w rest
+
+-- whatever a walk names lies behind the ring
+pub named_behind : (most : ℕ) (image : Image) (sectors : ℕ) (named : List ℕ) (pointer : PagePtr) (walked : Walked) → walk most image sectors named pointer ≡ Some walked → AllByRecursion (λ sector. 32 ≤ sector) named → AllByRecursion (λ sector. 32 ≤ sector) walked.named
+named_behind zero image sectors named pointer walked is before = absurd (cc is)
+named_behind (suc most) image sectors named pointer walked is before =
+    by_step (λ w rest open_here. named_behind most image sectors (named ++ pointer.sector ∷ []) (next_in (sector_at image pointer.sector)) w rest (longer named before open_here)) (step_of most image sectors named pointer walked is)
+  where
+    longer : (ns : List ℕ) → AllByRecursion (λ sector. 32 ≤ sector) ns → is_open_to sectors named pointer.sector ≡ true → AllByRecursion (λ sector. 32 ≤ sector) (ns ++ pointer.sector ∷ [])
+    longer [] all open_here = ((is_open-parts sectors named pointer.sector open_here).from, tt)
+    longer (n ∷ ns) all open_here = (all.0, longer ns all.1 open_here)
+
+    by_step : ((w : Walked) → walk most image sectors (named ++ pointer.sector ∷ []) (next_in (sector_at image pointer.sector)) ≡ Some w → is_open_to sectors named pointer.sector ≡ true → AllByRecursion (λ sector. 32 ≤ sector) w.named) → Step most image sectors named pointer walked → AllByRecursion (λ sector. 32 ≤ sector) walked.named
+    by_step again (ended null same) = subst (λ (w : Walked). AllByRecursion (λ sector. 32 ≤ sector) w.named) same before
+    by_step again (went_on w null belongs rest same) = subst (λ (v : Walked). AllByRecursion (λ sector. 32 ≤ sector) v.named) same (again w rest (and_parts (is_open_to sectors named pointer.sector) (holds_page image pointer) belongs).0)
+
+-- and so does each page of a flat image
+pub pages_behind : (image : Image) (seal : Seal) (flat : Flat) → IsRead image seal flat → AllByRecursion (λ sector. 32 ≤ sector) flat.named
+pages_behind image seal flat read =
+    one read.after_active (flushing_root seal) flat.named read.flushing read.fifth
+    (one read.after_duplicate (active_root seal) read.after_active read.active read.fourth
+    (one read.after_unique (duplicate_root seal) read.after_duplicate read.duplicate read.third
+    (one read.after_slots (unique_root seal) read.after_unique read.unique read.second (one [] (slots_root seal) read.after_slots read.slots read.first tt))))
+  where
+    one : (before : List ℕ) (root : Option PagePtr) (after : List ℕ) (records : List (List ℕ)) → Reads image before root after records → AllByRecursion (λ sector. 32 ≤ sector) before → AllByRecursion (λ sector. 32 ≤ sector) after
+    one before root after records read = named_behind (length image) image (length image) before (pointer_or_null root) (record { named = after; records = records }) read
 
 -- the walk is the same on an image that holds the same in each sector that it names
 pub walk_kept : (most : ℕ) (image c : Image) (sectors : ℕ) (named : List ℕ) (pointer : PagePtr) (walked : Walked) → walk most image sectors named pointer ≡ Some walked → SameIn image c walked.named → walk most c sectors named pointer ≡ Some walked

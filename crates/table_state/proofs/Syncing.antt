@@ -10,9 +10,11 @@ use Rattle.ddt_entry.specs.declared.key.Key.{Key}
 use Rattle.ddt_entry.specs.declared.entry.Entry.{Entry}
 use Rattle.ddt_entry.specs.declared.entry.Change.{Change}
 use Rattle.ddt_entry.specs.declared.entry.Change.TheVariants as changes
+use Rattle.ddt_entry.specs.Records.{IsKeyLength}
 use Rattle.ddt_entry.proofs.KeyLaws.{key_eq-symm}
 use Rattle.pool_model.specs.Table.{TableState, change_at, set_entry, set_change, drop_entry, log_change, logged, flush_entry, checkpoint_after, flushed, is_due, aged, swapped, flush_limit, sync_table}
 use Rattle.table_state.specs.Flat.{AreRising, IsWithin, IsChangeWithin, is_past}
+use Rattle.table_state.specs.Sound.{HasLength, HasKeyLengths}
 use Rattle.table_state.specs.Tables.{IsTable, IsTableWithin, AreChangesRising}
 use Rattle.table_state.proofs.Lists.{all_from, all_each, all_filter, all_passed, all_missed, none_found, pairs_filter, pairs_drop, all_behind, all_take, all_drop, fold_keeps}
 use Rattle.table_state.proofs.Sorted.{rising_put, all_put}
@@ -169,39 +171,57 @@ table_within_later sectors group group' table later within = record {
   active = all_from (IsChangeWithin sectors group) (IsChangeWithin sectors group') (change_within_later sectors group group' later) table.active within.active;
 }
 
-module _ (sectors group : ℕ) where
-  log_change_within : (table : TableState) (change : Change) → IsTableWithin sectors group table → IsChangeWithin sectors group change → IsTableWithin sectors group (log_change table change)
-  log_change_within table change within here = record {
-    zap = within.zap;
-    flush = all_filter (IsChangeWithin sectors group) (λ c. not (key_eq (key_in c) (key_in change))) table.flush within.flush;
-    active = all_put changes_put (IsChangeWithin sectors group) change table.active here within.active;
+-- a property of each entry and of each change of a table
+pub record IsEach (P : Entry → Type 0) (Q : Change → Type 0) (table : TableState) : Type 0 where
+  pub zap : AllByRecursion P table.zap
+  pub flush : AllByRecursion Q table.flush
+  pub active : AllByRecursion Q table.active
+
+-- a sync keeps it, where an entry has it that its change has
+module _ (P : Entry → Type 0) (Q : Change → Type 0) (entry_of : (entry : Entry) → Q (changes.Entry entry) → P entry) where
+  log_change_each : (table : TableState) (change : Change) → IsEach P Q table → Q change → IsEach P Q (log_change table change)
+  log_change_each table change each here = record {
+    zap = each.zap;
+    flush = all_filter Q (λ c. not (key_eq (key_in c) (key_in change))) table.flush each.flush;
+    active = all_put changes_put Q change table.active here each.active;
   }
 
-  flush_entry_within : (zap : List Entry) (change : Change) → AllByRecursion (IsWithin sectors group) zap → IsChangeWithin sectors group change → AllByRecursion (IsWithin sectors group) (flush_entry zap change)
-  flush_entry_within zap (changes.Entry entry) within here = by_count (nat_lt 0 entry.home.count)
+  flush_entry_each : (zap : List Entry) (change : Change) → AllByRecursion P zap → Q change → AllByRecursion P (flush_entry zap change)
+  flush_entry_each zap (changes.Entry entry) each here = by_count (nat_lt 0 entry.home.count)
     where
-      by_count : (b : Bool) → AllByRecursion (IsWithin sectors group) (if b then set_entry entry zap else drop_entry entry.key zap)
-      by_count true = all_put entries_put (IsWithin sectors group) entry zap here within
-      by_count false = all_filter (IsWithin sectors group) (λ e. not (key_eq e.key entry.key)) zap within
-  flush_entry_within zap (changes.Gone key) within here = all_filter (IsWithin sectors group) (λ e. not (key_eq e.key key)) zap within
+      by_count : (b : Bool) → AllByRecursion P (if b then set_entry entry zap else drop_entry entry.key zap)
+      by_count true = all_put entries_put P entry zap (entry_of entry here) each
+      by_count false = all_filter P (λ e. not (key_eq e.key entry.key)) zap each
+  flush_entry_each zap (changes.Gone key) each here = all_filter P (λ e. not (key_eq e.key key)) zap each
 
-  flushed_within : (limit : ℕ) (table : TableState) → IsTableWithin sectors group table → IsTableWithin sectors group (flushed limit table)
-  flushed_within limit table within = record {
-    zap = fold_keeps (AllByRecursion (IsWithin sectors group)) (IsChangeWithin sectors group) flush_entry flush_entry_within (take limit table.flush) table.zap within.zap (all_take (IsChangeWithin sectors group) limit table.flush within.flush);
-    flush = all_drop (IsChangeWithin sectors group) limit table.flush within.flush;
-    active = within.active;
+  flushed_each : (limit : ℕ) (table : TableState) → IsEach P Q table → IsEach P Q (flushed limit table)
+  flushed_each limit table each = record {
+    zap = fold_keeps (AllByRecursion P) Q flush_entry flush_entry_each (take limit table.flush) table.zap each.zap (all_take Q limit table.flush each.flush);
+    flush = all_drop Q limit table.flush each.flush;
+    active = each.active;
   }
 
-  swapped_within : (table : TableState) → IsTableWithin sectors group table → IsTableWithin sectors group (swapped table)
-  swapped_within table within = by_due (is_due (aged table))
+  swapped_each : (table : TableState) → IsEach P Q table → IsEach P Q (swapped table)
+  swapped_each table each = by_due (is_due (aged table))
     where
-      by_due : (b : Bool) → IsTableWithin sectors group (if b then record table { flush = table.active; active = []; age = 0; checkpoint = None } else aged table)
-      by_due true = record { zap = within.zap; flush = within.active; active = tt }
-      by_due false = record { zap = within.zap; flush = within.flush; active = within.active }
+      by_due : (b : Bool) → IsEach P Q (if b then record table { flush = table.active; active = []; age = 0; checkpoint = None } else aged table)
+      by_due true = record { zap = each.zap; flush = each.active; active = tt }
+      by_due false = record { zap = each.zap; flush = each.flush; active = each.active }
+
+  pub sync_each : (log : List Change) (table : TableState) → IsEach P Q table → AllByRecursion Q log → IsEach P Q (sync_table log table)
+  sync_each log table each all =
+      swapped_each (flushed (flush_limit table) (logged log table))
+      (flushed_each (flush_limit table) (logged log table) (fold_keeps (IsEach P Q) Q log_change log_change_each log table each all))
 
 -- a sync with changes in range leaves a table in range
 pub sync_within : (sectors group group' : ℕ) (log : List Change) (table : TableState) → group ≤ group' → IsTableWithin sectors group table → AllByRecursion (IsChangeWithin sectors group') log → IsTableWithin sectors group' (sync_table log table)
 sync_within sectors group group' log table later within all =
-    swapped_within sectors group' (flushed (flush_limit table) (logged log table))
-    (flushed_within sectors group' (flush_limit table) (logged log table)
-    (fold_keeps (IsTableWithin sectors group') (IsChangeWithin sectors group') log_change (log_change_within sectors group') log table (table_within_later sectors group group' table later within) all))
+    let first = table_within_later sectors group group' table later within in
+    let each = sync_each (IsWithin sectors group') (IsChangeWithin sectors group') (λ entry here. here) log table (record { zap = first.zap; flush = first.flush; active = first.active }) all in
+    record { zap = each.zap; flush = each.flush; active = each.active }
+
+-- and with keys of lengths in their range, one of such keys
+pub sync_lengths : (log : List Change) (table : TableState) → HasKeyLengths table → AllByRecursion HasLength log → HasKeyLengths (sync_table log table)
+sync_lengths log table lengths all =
+    let each = sync_each (λ entry. IsKeyLength entry.key.len) HasLength (λ entry here. here) log table (record { zap = lengths.zap; flush = lengths.flush; active = lengths.active }) all in
+    record { zap = each.zap; flush = each.flush; active = each.active }

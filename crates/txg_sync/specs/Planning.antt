@@ -12,6 +12,7 @@ use Rattle.pool_model.specs.Plain.{Stored, stored_of}
 use Rattle.pool_model.specs.Space.{used_sectors}
 use Rattle.pool_model.specs.Table.{sync_table}
 use Rattle.uber_ring.specs.declared.seal.Seal.{Seal}
+use Rattle.txg_sync.specs.Placing.{ArePlaced}
 use Rattle.table_state.specs.Pools.{Held, slots_after, pool_after}
 use Rattle.table_state.specs.Sealed.{ChainPart, places_in, records_in, seal_of}
 
@@ -38,16 +39,8 @@ pub record IsNext (held : Held) (group : Group) (pages : List ℕ) (next : Held)
   pub group_is : next.group ≡ held.group + 1
   pub sectors_are : next.sectors ≡ held.sectors
 
--- chains of these slots and this table, each page at a place of its own that nothing uses, not even a block of the group
-pub record ArePlanned (held : Held) (group : Group) (next : Held) (parts : List ChainPart) : Type 0 where
-  pub spelled : map (λ part. part.records) parts ≡ records_in next.slots next.table
-  pub pages : AllByRecursion (λ part. length part.places ≡ pages_for (length part.records)) parts
-  pub places_open : AreOpen held.sectors [] (places_in parts)
-  pub unused : AllByRecursion (λ place. slice_index_or held.used place true ≡ false) (places_in parts)
-  pub no_block : AllByRecursion (λ place. list_any (λ stored. stored.place == place) group.contents ≡ false) (places_in parts)
-
 -- a plan: the pool after the group, its chains, and the seal, whose roots are known once the pages are written
 pub record IsPlan (held : Held) (group : Group) (next : Held) (parts : List ChainPart) (seal : Seal) : Type 0 where
   pub is_next : IsNext held group (places_in parts) next
-  pub planned : ArePlanned held group next parts
+  pub placed : ArePlaced held.used group.contents (records_in next.slots next.table) parts
   pub seal_is : (roots : List PagePtr) → record seal { pointers = roots ++ null_pointer ∷ [] } ≡ seal_of held.tag held.sectors (held.group + 1) group.modes group.quota next.table roots (length (places_in parts))

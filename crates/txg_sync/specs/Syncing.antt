@@ -12,6 +12,7 @@ use Rattle.table_state.specs.Flat.{StandsFor, IsChangeWithin}
 use Rattle.table_state.specs.Pools.{Held, IsHeld, slots_after, pool_after}
 use Rattle.table_state.specs.Sealed.{ChangesSlotWithin, records_in}
 use Rattle.table_state.specs.Sound.{HasLength}
+use Rattle.txg_sync.specs.Placing.{pages_of}
 use Rattle.txg_sync.specs.Planning.{Group}
 use Rattle.txg_sync.specs.Writing.{block_places}
 
@@ -31,9 +32,9 @@ table_after held group = sync_table group.log held.table
 abbrev pub group_pool : Image → Held → Group → Pool
 group_pool image held group = pool_after image group.contents (slots_after group.slots held.slots) (table_after held group) group.modes group.quota (held.group + 1)
 
--- how many pages the image after the group has
-abbrev pub pages_after : Held → Group → ℕ
-pages_after held group = sum_by (λ records. pages_for (length records)) (records_in (slots_after group.slots held.slots) (table_after held group))
+-- the records of the image after the group, chain by chain
+abbrev pub records_after : Held → Group → List (List (List ℕ))
+records_after held group = records_in (slots_after group.slots held.slots) (table_after held group)
 
 -- a block stands there already, or is one of the group's
 abbrev pub IsNamed : (used : List Bool) → (contents : List Stored) → (place : ℕ) → Type 0
@@ -49,7 +50,7 @@ pub record CanSync (image : Image) (held : Held) (group : Group) : Type 0 where
   pub waiting_named : AllByRecursion (λ entry. IsNamed held.used group.contents entry.home.place) (waiting_in (table_after held group))
   pub well_formed : IsWellFormed held.sectors (group_pool image held group)
   pub matches : Matches (group_pool image held group) (table_after held group)
-  pub room : pages_after held group ≤ count_by not (marked held.used (block_places group.contents))
+  pub room : pages_of (records_after held group) ≤ count_by not (marked held.used (block_places group.contents))
 
 abbrev pub CanSyncOver : Option Image → Held → Group → Type 0
 CanSyncOver None held group = ⊤
