@@ -7,3 +7,4 @@ pub mod Filling
 pub mod Stored
 pub mod Groups
 pub mod Outcomes
+pub mod Afterwards

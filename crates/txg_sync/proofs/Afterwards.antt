@@ -1,0 +1,209 @@
+-- What an image stands for once a group's gate is open.
+use Rattle.std.proofs.Common.{◌≡◌, ℕ, zero, suc, ◌+◌, ◌^◌, ◌<◌, ◌≤◌, ◌⊎◌, Bool, true, false, ◌||◌, ◌==◌, List, [], ◌∷◌, ◌++◌, Some, length, map, refl, sym, ap, subst, ◌∙◌, ⊎_elim, arith}
+use Rattle.std.proofs.lemmas.Bool.Decides.{eqb_tells}
+use Rattle.table_state.proofs.Lists.{all_from}
+use Rattle.std.specs.Prelude.{slice_index_or}
+use Rattle.std.specs.List.{AllByRecursion, list_any}
+use Rattle.ddt_entry.specs.Records.{Fits as ChangeFits}
+use Rattle.ddt_entry.specs.declared.entry.Entry.{Entry}
+use Rattle.ddt_entry.specs.declared.entry.Change.TheVariants as changes
+use Rattle.disk_model.specs.Images.{Image, sector_at}
+use Rattle.uber_ring.specs.Ring.{newest}
+use Rattle.uber_ring.specs.declared.seal.Seal.{Seal}
+use Rattle.page_tree.specs.Chains.{AreOpen}
+use Rattle.pool_model.specs.Pool.{Pool, Pointer, Pairwise}
+use Rattle.pool_model.specs.Plain.{Stored}
+use Rattle.pool_model.specs.Space.{used_sectors}
+use Rattle.pool_model.specs.Table.{TableState, sync_table, waiting_in}
+use Rattle.table_state.specs.Flat.{Flat, StandsFor, IsClear, stands_before, flat_version, pointer_of, table_in}
+use Rattle.table_state.specs.Pools.{Held, IsHeld, slots_after, pool_after, with_blocks}
+use Rattle.table_state.specs.SealForms.{last_group}
+use Rattle.table_state.specs.SlotRecords.{is_slot, FitsSlot}
+use Rattle.table_state.specs.Sound.{IsSound, HasKeyLengths}
+use Rattle.table_state.specs.Sealed.{ChainPart, places_in, records_in, roots_of, seal_of, flat_of, CanBeKept, AreParts, CanStand, IsSealedImage, SameBlocks}
+use Rattle.table_state.specs.Tables.{IsTable, IsTableWithin}
+use Rattle.table_state.specs.declared.slot_record.SlotRecord.{SlotRecord}
+use Rattle.table_state.proofs.SlotLaws.{is_slot-from}
+use Rattle.table_state.proofs.SlotsAfter.{rising_after, within_after, within_later}
+use Rattle.table_state.proofs.Stands.{sealed_stands, sealed_by, sealed_keeps}
+use Rattle.table_state.proofs.Syncing.{sync_keeps, sync_within, sync_lengths, sync_checkpoint}
+use Rattle.table_state.proofs.TableBack.{is_table_in}
+use Rattle.table_state.proofs.UsedLaws.{used_same}
+use Rattle.txg_sync.specs.Planning.{Group, IsPlan}
+use Rattle.txg_sync.specs.Syncing.{CanSync, IsInRange, IsNamed, table_after, group_pool}
+use Rattle.txg_sync.specs.Writing.{IsSealed, with_roots}
+use Rattle.txg_sync.proofs.Outcomes.{apart_from_unused}
+
+-- the values of a table and of slots have a spelling
+pub record AreSpelt (slots : List SlotRecord) (table : TableState) : Type 0 where
+  pub slots_fit : AllByRecursion FitsSlot slots
+  pub zap : AllByRecursion (λ entry. ChangeFits (changes.Entry entry)) table.zap
+  pub flush : AllByRecursion ChangeFits table.flush
+  pub active : AllByRecursion ChangeFits table.active
+
+-- what is no block of the group and isn't used is no place that is named
+no_block_at : (contents : List Stored) (places : List ℕ) (at : ℕ) → AllByRecursion (λ place. list_any (λ stored. stored.place == place) contents ≡ false) places → list_any (λ stored. stored.place == at) contents ≡ true → list_any (λ place. place == at) places ≡ false
+no_block_at contents [] at none here = refl
+no_block_at contents (place ∷ places) at none here =
+    ⊎_elim
+    (λ same. absurd (clash (sym here ∙ ap (λ p. list_any (λ (s : Stored). s.place == p) contents) (sym same.1) ∙ none.0)))
+    (λ other. ap (λ b. b || list_any (λ p. p == at) places) other.0 ∙ no_block_at contents places at none.1 here)
+    (eqb_tells place at)
+  where
+    clash : true ≡ false → ⊥
+    clash e = cc e
+
+two : {X : Type 0} (P Q S : X → Type 0) → ((x : X) → P x → Q x → S x) → (xs : List X) → AllByRecursion P xs → AllByRecursion Q xs → AllByRecursion S xs
+two P Q S from [] p q = tt
+two P Q S from (x ∷ xs) p q = (from x p.0 q.0, two P Q S from xs p.1 q.1)
+
+mapped_slots : (P : ℕ → Type 0) (image : Image) (table : TableState) (slots : List SlotRecord) → AllByRecursion (λ slot. P slot.pointer.place) slots → AllByRecursion (λ (p : Pointer). P p.place) (map (pointer_of image table) slots)
+mapped_slots P image table [] all = tt
+mapped_slots P image table (slot ∷ slots) all = (all.0, mapped_slots P image table slots all.1)
+
+-- a used sector is in the set, so asking past its end makes no difference
+default_true : (used : List Bool) (at : ℕ) → slice_index_or used at false ≡ true → slice_index_or used at true ≡ true
+default_true [] at e = refl
+default_true (b ∷ used) zero e = e
+default_true (b ∷ used) (suc at) e = default_true used at e
+
+-- a pool in memory that agrees with what an image stands for
+made_held : (c : Image) (next : Held) (pool : Pool) (table : TableState) (tag : ℕ) → next.tag ≡ tag → (state : StandsFor tag c pool table) → next.slots ≡ state.flat.slots → next.pages ≡ state.flat.named → next.sectors ≡ state.seal.sectors
+    → next.table ≡ table → next.used ≡ used_sectors next.sectors next.pages pool table → next.modes ≡ pool.modes → next.quota ≡ pool.quota → next.group ≡ pool.group → IsHeld c next pool table
+made_held c next pool table tag same =
+    subst
+    (λ t. (state : StandsFor t c pool table) → next.slots ≡ state.flat.slots → next.pages ≡ state.flat.named → next.sectors ≡ state.seal.sectors
+    → next.table ≡ table → next.used ≡ used_sectors next.sectors next.pages pool table → next.modes ≡ pool.modes → next.quota ≡ pool.quota → next.group ≡ pool.group → IsHeld c next pool table)
+    same
+    (λ state slots pages sectors tables used modes quota group. record {
+      stands = state;
+      slots_are = slots;
+      table_is = tables;
+      pages_are = pages;
+      used_are = used;
+      modes_are = modes;
+      quota_is = quota;
+      group_is = group;
+      sectors_are = sectors;
+    })
+
+module _ (held : Held) (group : Group) (sound : IsSound held) (range : IsInRange held group) (last : held.group + 1 ≤ last_group) (next : Held) (parts : List ChainPart) (seal : Seal) (plan : IsPlan held group next parts seal) where
+  abbrev slots' : List SlotRecord
+  slots' = slots_after group.slots held.slots
+
+  abbrev table' : TableState
+  table' = table_after held group
+
+  within' : AllByRecursion (λ slot. is_slot held.sectors (held.group + 1) slot ≡ true) slots'
+  within' = within_after held.sectors (held.group + 1) group.slots held.slots range.slots (within_later held.sectors held.group (held.group + 1) (omega arith) held.slots sound.slots_within)
+
+  table_within' : IsTableWithin held.sectors (held.group + 1) table'
+  table_within' = sync_within held.sectors held.group (held.group + 1) group.log held.table (omega arith) sound.within range.changes
+
+  lengths' : HasKeyLengths table'
+  lengths' = sync_lengths group.log held.table sound.lengths range.lengths
+
+  open' : AreOpen held.sectors [] (places_in parts)
+  open' = subst (λ n. AreOpen n [] (places_in parts)) sound.used_len plan.placed.places_open
+
+  module _ (image : Image) (there : held.sectors ≤ length image) (small : length image ≤ 2 ^ 64) (can : CanSync image held group) (spelt : AreSpelt next.slots next.table) where
+    abbrev pool' : Pool
+    pool' = group_pool image held group
+
+    held_table : held.table ≡ table_in can.is_held.stands.seal can.is_held.stands.flat
+    held_table = can.is_held.table_is ∙ can.is_held.stands.table_is
+
+    spelt' : AreSpelt slots' table'
+    spelt' = subst (λ (t : TableState). AreSpelt slots' t) plan.is_next.table_is (subst (λ (s : List SlotRecord). AreSpelt s next.table) plan.is_next.slots_are spelt)
+
+    can_keep : CanBeKept held.sectors (held.group + 1) slots' table'
+    can_keep = record {
+      enough = sound.enough;
+      few = sound.few;
+      first = omega arith;
+      last = last;
+      slots_within = within';
+      slots_rising = rising_after group.slots held.slots (subst (λ (s : List SlotRecord). Pairwise (λ a b. stands_before a b ≡ true) s) (sym can.is_held.slots_are) can.is_held.stands.whole.slots_rising);
+      slots_fit = spelt'.slots_fit;
+      sorted = sync_keeps group.log held.table (subst IsTable (sym held_table) (is_table_in can.is_held.stands.seal can.is_held.stands.flat can.is_held.stands.whole));
+      within = table_within';
+      zap_fits = spelt'.zap;
+      flush_fits = spelt'.flush;
+      active_fits = spelt'.active;
+      zap_lengths = lengths'.zap;
+      flush_lengths = lengths'.flush;
+      active_lengths = lengths'.active;
+      checkpoint = sync_checkpoint group.log held.table;
+    }
+
+    are_parts : AreParts held.sectors slots' table' parts
+    are_parts = record {
+      spelled = plan.placed.spelled ∙ ap (λ (s : List SlotRecord). records_in s next.table) plan.is_next.slots_are ∙ ap (records_in slots') plan.is_next.table_is;
+      pages = plan.placed.pages;
+      places_open = open';
+    }
+
+    -- no page lies where a block is named
+    clear_if_named : (place : ℕ) → IsNamed held.used group.contents place → IsClear (places_in parts) place
+    clear_if_named place named =
+        ⊎_elim
+        (λ used. apart_from_unused held.used (places_in parts) place plan.placed.unused (default_true held.used place used))
+        (λ block. no_block_at group.contents (places_in parts) place plan.placed.no_block block)
+        named
+
+    clear_slots : AllByRecursion (λ (slot : SlotRecord). IsClear (places_in parts) slot.pointer.place) slots'
+    clear_slots = all_from (λ (slot : SlotRecord). IsNamed held.used group.contents slot.pointer.place) (λ (slot : SlotRecord). IsClear (places_in parts) slot.pointer.place) (λ slot named. clear_if_named slot.pointer.place named) slots' can.pointers_named
+
+    can_stand : CanStand held.sectors (places_in parts) pool' table'
+    can_stand = record {
+      well_formed = can.well_formed;
+      matches = can.matches;
+      pointers_clear = mapped_slots (IsClear (places_in parts)) (with_blocks group.contents image) table' slots' clear_slots;
+      waiting_clear = all_from (λ (entry : Entry). IsNamed held.used group.contents entry.home.place) (λ (entry : Entry). IsClear (places_in parts) entry.home.place) (λ entry named. clear_if_named entry.home.place named) (waiting_in table') can.waiting_named;
+    }
+
+    module _ (slot : ℕ) (c : Image) (sealed : IsSealed slot group.contents parts (with_roots seal parts) image c) where
+      rooted : with_roots seal parts ≡ seal_of held.tag held.sectors (held.group + 1) group.modes group.quota table' (roots_of parts) (length (places_in parts))
+      rooted = plan.seal_is (roots_of parts) ∙ ap (λ (t : TableState). seal_of held.tag held.sectors (held.group + 1) group.modes group.quota t (roots_of parts) (length (places_in parts))) plan.is_next.table_is
+
+      is_image : IsSealedImage held.tag held.sectors (held.group + 1) image c slots' table' group.modes group.quota group.contents parts
+      is_image = record {
+        counts = sealed.counts ∙ ap Some rooted;
+        there = omega (arith, there, sealed.only.count);
+        held = sealed.held;
+        blocks = two (λ (s : SlotRecord). is_slot held.sectors (held.group + 1) s ≡ true) (λ (s : SlotRecord). IsClear (places_in parts) s.pointer.place) (λ (s : SlotRecord). sector_at c s.pointer.place ≡ sector_at (with_blocks group.contents image) s.pointer.place)
+            (λ s is clear. sealed.blocks s.pointer.place (is_slot-from held.sectors (held.group + 1) s is).place.0 clear) slots' within' clear_slots;
+      }
+
+      size : length c ≤ 2 ^ 64
+      size = omega (arith, small, sealed.only.count)
+
+      -- the image stands for the pool after the group
+      pub stands_after : StandsFor held.tag c pool' table'
+      stands_after = sealed_stands held.tag held.sectors (held.group + 1) slots' table' group.modes group.quota can_keep image c group.contents parts are_parts can_stand size is_image
+
+      kept_flat : stands_after.flat ≡ flat_of slots' table' (places_in parts)
+      unfolding stands_after
+      kept_flat = sealed_keeps held.tag held.sectors (held.group + 1) slots' table' group.modes group.quota can_keep image c group.contents parts are_parts can_stand size is_image
+
+      kept_seal : stands_after.seal ≡ seal_of held.tag held.sectors (held.group + 1) group.modes group.quota table' (roots_of parts) (length (places_in parts))
+      unfolding stands_after
+      kept_seal = sealed_by held.tag held.sectors (held.group + 1) slots' table' group.modes group.quota can_keep image c group.contents parts are_parts can_stand size is_image
+
+      used' : next.used ≡ used_sectors next.sectors next.pages pool' table'
+      used' =
+          plan.is_next.used_are
+          ∙ ap (λ (s : List SlotRecord). used_sectors held.sectors (places_in parts) (pool_after [] [] s next.table group.modes group.quota (held.group + 1)) next.table) plan.is_next.slots_are
+          ∙ ap (λ (t : TableState). used_sectors held.sectors (places_in parts) (pool_after [] [] slots' t group.modes group.quota (held.group + 1)) t) plan.is_next.table_is
+          ∙ used_same held.sectors (places_in parts) slots' table' [] image [] group.contents group.modes group.modes group.quota group.quota (held.group + 1) (held.group + 1)
+          ∙ ap (λ n. used_sectors n (places_in parts) pool' table') (sym plan.is_next.sectors_are)
+          ∙ ap (λ (ps : List ℕ). used_sectors next.sectors ps pool' table') (sym plan.is_next.pages_are)
+
+      -- and the pool in memory is that one
+      pub held_after : IsHeld c next pool' table'
+      held_after =
+          made_held c next pool' table' held.tag plan.is_next.tag_is stands_after
+          (plan.is_next.slots_are ∙ ap (λ (f : Flat). f.slots) (sym kept_flat))
+          (plan.is_next.pages_are ∙ ap (λ (f : Flat). f.named) (sym kept_flat))
+          (plan.is_next.sectors_are ∙ ap (λ (s : Seal). s.sectors) (sym kept_seal))
+          plan.is_next.table_is used' plan.is_next.modes_are plan.is_next.quota_is plan.is_next.group_is
