@@ -3,7 +3,10 @@ use Rattle.std.proofs.Common.{◌≡◌, ℕ, zero, suc, ◌+◌, ◌^◌, ◌<�
 use Rattle.std.proofs.lemmas.Bool.Decides.{eqb_tells}
 use Rattle.table_state.proofs.Lists.{all_from}
 use Rattle.std.specs.Prelude.{slice_index_or}
-use Rattle.std.specs.List.{AllByRecursion, list_any}
+use Rattle.std.specs.List.{AllByRecursion, list_any, range_with_len}
+use Rattle.std.proofs.lemmas.Bool.{lt-ltb}
+use Rattle.std.proofs.lemmas.List.{length-map}
+use Rattle.std.proofs.lemmas.List.FromFn.{get_or-map-range_with_len, length-range_with_len}
 use Rattle.ddt_entry.specs.Records.{Fits as ChangeFits}
 use Rattle.ddt_entry.specs.declared.entry.Entry.{Entry}
 use Rattle.ddt_entry.specs.declared.entry.Change.TheVariants as changes
@@ -13,7 +16,7 @@ use Rattle.uber_ring.specs.declared.seal.Seal.{Seal}
 use Rattle.page_tree.specs.Chains.{AreOpen}
 use Rattle.pool_model.specs.Pool.{Pool, Pointer, Pairwise}
 use Rattle.pool_model.specs.Plain.{Stored}
-use Rattle.pool_model.specs.Space.{used_sectors}
+use Rattle.pool_model.specs.Space.{is_used, used_sectors}
 use Rattle.pool_model.specs.Table.{TableState, sync_table, waiting_in}
 use Rattle.table_state.specs.Flat.{Flat, StandsFor, IsClear, stands_before, flat_version, pointer_of, table_in}
 use Rattle.table_state.specs.Pools.{Held, IsHeld, slots_after, pool_after, with_blocks}
@@ -105,6 +108,35 @@ module _ (held : Held) (group : Group) (sound : IsSound held) (range : IsInRange
 
   open' : AreOpen held.sectors [] (places_in parts)
   open' = subst (λ n. AreOpen n [] (places_in parts)) sound.used_len plan.placed.places_open
+
+  -- whatever the disk tells, the pool after the group is sound
+  pub sound_after : IsSound next
+  sound_after = record {
+    enough = subst (λ n. 2048 ≤ n) (sym plan.is_next.sectors_are) sound.enough;
+    few = subst (λ n. n ≤ 1000000) (sym plan.is_next.sectors_are) sound.few;
+    first = omega (arith, plan.is_next.group_is);
+    last = subst (λ n. n ≤ last_group) (sym plan.is_next.group_is) last;
+    used_len =
+        ap length plan.is_next.used_are ∙ length-map (range_with_len 0 held.sectors) (is_used (places_in parts) bare next.table) ∙ length-range_with_len 0 held.sectors ∙ sym plan.is_next.sectors_are;
+    ring = λ sector within.
+        ap (λ (u : List Bool). slice_index_or u sector true) plan.is_next.used_are
+        ∙ get_or-map-range_with_len (is_used (places_in parts) bare next.table) 0 held.sectors sector sector true (omega (arith, within, sound.enough)) (omega arith)
+        ∙ any_ring _ _ _ _ (lt-ltb sector 32 within);
+    slots_within =
+        subst (λ (s : List SlotRecord). AllByRecursion (λ slot. is_slot next.sectors next.group slot ≡ true) s) (sym plan.is_next.slots_are)
+        (subst (λ n. AllByRecursion (λ slot. is_slot n next.group slot ≡ true) slots') (sym plan.is_next.sectors_are) (subst (λ n. AllByRecursion (λ slot. is_slot held.sectors n slot ≡ true) slots') (sym plan.is_next.group_is) within'));
+    within =
+        subst (IsTableWithin next.sectors next.group) (sym plan.is_next.table_is)
+        (subst (λ n. IsTableWithin n next.group table') (sym plan.is_next.sectors_are) (subst (λ n. IsTableWithin held.sectors n table') (sym plan.is_next.group_is) table_within'));
+    lengths = subst HasKeyLengths (sym plan.is_next.table_is) lengths';
+  }
+    where
+      bare : Pool
+      bare = pool_after [] [] next.slots next.table group.modes group.quota (held.group + 1)
+
+      any_ring : (a b c d : Bool) → a ≡ true → (a || b || c || d) ≡ true
+      any_ring true b c d e = refl
+      any_ring false b c d e = absurd (cc e)
 
   module _ (image : Image) (there : held.sectors ≤ length image) (small : length image ≤ 2 ^ 64) (can : CanSync image held group) (spelt : AreSpelt next.slots next.table) where
     abbrev pool' : Pool
