@@ -6,3 +6,4 @@ pub mod Parts
 pub mod Filling
 pub mod Stored
 pub mod PlannedSlots
+pub mod PlannedSeals

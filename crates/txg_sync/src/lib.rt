@@ -12,6 +12,7 @@
 mod begin;
 mod fault;
 mod fill;
+mod group_seal;
 mod next_slots;
 mod part;
 mod store;
@@ -22,6 +23,7 @@ mod tests;
 pub use begin::seal_new_pool;
 pub use fault::SealFault;
 pub use fill::fill_slot;
+pub use group_seal::seal_of;
 pub use next_slots::slots_after;
 pub use part::ChainPages;
 pub use store::{store_group, write_blocks, write_parts};
