@@ -5,5 +5,6 @@ pub mod Storing
 pub mod Parts
 pub mod Filling
 pub mod Stored
+pub mod PlannedRecords
 pub mod PlannedSlots
 pub mod PlannedSeals

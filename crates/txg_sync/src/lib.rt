@@ -10,8 +10,10 @@
 #![tactic(auto)]
 
 mod begin;
+mod chain_records;
 mod fault;
 mod fill;
+mod fits;
 mod group_seal;
 mod next_slots;
 mod part;
@@ -21,8 +23,10 @@ mod take;
 mod tests;
 
 pub use begin::seal_new_pool;
+pub use chain_records::records_of;
 pub use fault::SealFault;
 pub use fill::fill_slot;
+pub use fits::{slots_fit, table_fits};
 pub use group_seal::seal_of;
 pub use next_slots::slots_after;
 pub use part::ChainPages;
