@@ -8,3 +8,6 @@ pub mod Stored
 pub mod Groups
 pub mod Outcomes
 pub mod Afterwards
+pub mod PlannedRecords
+pub mod PlannedSlots
+pub mod PlannedSeals

@@ -10,9 +10,13 @@
 #![tactic(auto)]
 
 mod begin;
+mod chain_records;
 mod fault;
 mod fill;
 mod group;
+mod fits;
+mod group_seal;
+mod next_slots;
 mod part;
 mod store;
 mod take;
@@ -20,9 +24,13 @@ mod take;
 mod tests;
 
 pub use begin::seal_new_pool;
+pub use chain_records::records_of;
 pub use fault::SealFault;
 pub use fill::fill_slot;
 pub use group::seal_group;
+pub use fits::{slots_fit, table_fits};
+pub use group_seal::seal_of;
+pub use next_slots::slots_after;
 pub use part::ChainPages;
 pub use store::{store_group, write_blocks, write_parts};
 pub use take::take_slot;

@@ -1,0 +1,20 @@
+-- Where a slot goes among slots in rising order: before the first that it stands before.
+use Rattle.std.proofs.Common.{◌≡◌, ℕ, ◌+◌, Bool, true, false, cond, not, List, [], ◌∷◌, length, refl, ap, ◌∙◌, arith, unwrap_or, position, insert, if◌then◌else◌}
+use Rattle.std.proofs.Math.Numerals.{one-add}
+use Rattle.std.specs.List.{position_or_len}
+use Rattle.std.proofs.lemmas.Grind.{common_steps}
+use Rattle.std.proofs.lemmas.List.Sums.{prefix_len-le-length}
+use Rattle.table_state.specs.Flat.{stands_before}
+use Rattle.table_state.specs.Pools.{insert_slot}
+use Rattle.table_state.specs.declared.slot_record.SlotRecord.{SlotRecord}
+
+-- the place that `position` finds, or else the length
+pub unwrap_or-position : {X : Type 0} (p : X → Bool) (xs : List X) → unwrap_or (position p xs) (length xs) ≡ position_or_len p xs
+unwrap_or-position p xs = let within = prefix_len-le-length (λ x. not (p x)) xs in grind (arith, common_steps)
+
+-- a slot goes to the first place whose slot it stands before
+pub insert_slot-insert : (new : SlotRecord) (slots : List SlotRecord) → insert_slot new slots ≡ insert slots (position_or_len (stands_before new) slots) new
+insert_slot-insert new [] = refl
+insert_slot-insert new (held ∷ slots) =
+    elim (stands_before new held) as (λ b. (if b then new ∷ held ∷ slots else held ∷ insert_slot new slots) ≡ insert (held ∷ slots) (cond (not b) (1 + position_or_len (stands_before new) slots) 0) new)
+    [ true ↦ refl | false ↦ rw one-add (ap (λ l. held ∷ l) (insert_slot-insert new slots)) ]

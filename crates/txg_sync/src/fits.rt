@@ -1,0 +1,72 @@
+//! That slots and changes at hand fit their ranges, by the types of their fields. The functions do nothing:
+//! whoever needs the law of a list at hand calls its function.
+
+ghost use Rattle.std.specs.List.{AllByRecursion};
+ghost use Rattle.ddt_entry.specs.Records.{Fits, HomeFits, KeyFits};
+ghost use Rattle.ddt_entry.specs.declared.entry.Change.TheVariants.{Entry as AnEntry};
+ghost use Rattle.table_state.specs.SlotRecords.{FitsSlot};
+
+use ddt_entry::{Change, Entry, Home, Key};
+use plain_table::PlainTable;
+use table_state::{SlotRecord, slot_fits};
+
+/// Slots that code has in hand fit.
+pub fn slots_fit(slots: &[SlotRecord])
+    ensures { AllByRecursion FitsSlot slots.now }
+{
+    'slots: for held in slots {
+        slot_fits(*held);
+    }
+}
+
+/// The lists of a table that code has in hand fit.
+pub fn table_fits(table: &PlainTable)
+    ensures zap { AllByRecursion (λ entry. Fits (AnEntry entry)) table.now.zap }
+    ensures flush { AllByRecursion Fits table.now.flush }
+    ensures active { AllByRecursion Fits table.now.active }
+{
+    entries_fit(table.zap.as_slice());
+    changes_fit(table.flush.as_slice());
+    changes_fit(table.active.as_slice());
+}
+
+/// Entries that code has in hand fit.
+fn entries_fit(entries: &[Entry])
+    ensures { AllByRecursion (λ entry. Fits (AnEntry entry)) entries.now }
+{
+    'entries: for entry in entries {
+        change_fits(Change::Entry(*entry));
+    }
+}
+
+/// Changes that code has in hand fit.
+fn changes_fit(changes: &[Change])
+    ensures { AllByRecursion Fits changes.now }
+{
+    'changes: for change in changes {
+        change_fits(*change);
+    }
+}
+
+/// A change by value fits.
+fn change_fits(change: Change)
+    ensures { Fits change }
+{
+    match change {
+        Change::Entry(entry) => {
+            key_fits(entry.key);
+            home_fits(entry.home);
+        }
+        Change::Gone(key) => key_fits(key),
+    }
+}
+
+/// A key by value fits, since its types say so; behind a reference the checker doesn't see it.
+fn key_fits(key: Key)
+    ensures { KeyFits key }
+{}
+
+/// The same of a home.
+fn home_fits(home: Home)
+    ensures { HomeFits home }
+{}

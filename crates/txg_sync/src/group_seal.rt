@@ -1,0 +1,137 @@
+ghost use Rattle.std.specs.Prelude.{◌≡◌, ◌≤◌, ◌^◌, ◌∷◌, [], ◌++◌, List, All, IfOk, length, map, filter, replicate, nat_lt, sum_by};
+ghost use Rattle.page_tree.specs.Pointers.{null_pointer};
+ghost use Rattle.page_tree.specs.declared.pointer.PagePtr.{PagePtr};
+ghost use Rattle.pool_model.specs.Table.{entries_found};
+ghost use Rattle.table_state.specs.SealForms.{mode_byte};
+ghost use Rattle.table_state.specs.Flat.{counted_homes};
+ghost use Rattle.table_state.specs.Sealed.{flag_of, quota_number, checkpoint_len, checkpoint_digest, seal_of};
+
+use ddt_entry::{Entry, Key};
+use page_tree::PagePtr;
+use plain_table::PlainTable;
+use pool_model::Mode;
+use std::alloc::{AllocError, Global};
+use table_state::byte_of;
+use uber_ring::Seal;
+
+/// The seal of a group, before its roots are known: the settings, the state of the table, null pointers, and the
+/// sums of the homes that are counted. The error is want of memory.
+pub fn seal_of(
+    alloc: Global,
+    tag: u8,
+    sectors: u64,
+    group: u64,
+    modes: &[Mode; 16],
+    quota: Option<u64>,
+    table: &PlainTable,
+    pages: u64,
+) -> Result<Seal, AllocError>
+    requires few { length (entries_found table.now) ≤ 2 ^ 40 }
+    requires counts { All (λ entry. entry.home.count ≤ 1048576) (entries_found table.now) }
+    ensures fields { IfOk result (λ seal. (roots : List PagePtr)
+        → record seal { pointers = roots ++ null_pointer ∷ [] } ≡ seal_of tag sectors group modes.now quota table.now roots pages) }
+    ensures pointers { IfOk result (λ seal. seal.pointers ≡ replicate 6 null_pointer) }
+{
+    let homes = counted(table.entries_found(alloc)?);
+    Ok(Seal {
+        version: 0,
+        tag: tag as u32,
+        group,
+        sectors,
+        quota: quota_number(quota),
+        quota_flag: quota_flag(quota),
+        modes: mode_bytes(modes),
+        age: table.age,
+        active_changes: table.active.len() as u64,
+        flushing_changes: table.flush.len() as u64,
+        checkpoint_flag: checkpoint_flag(table.checkpoint),
+        checkpoint_len: checkpoint_len(table.checkpoint),
+        checkpoint_digest: checkpoint_digest(table.checkpoint),
+        pointers: [PagePtr::NULL; 6],
+        homes: homes.len() as u64,
+        counts: sum_of_counts(homes.as_slice()),
+        pages,
+    })
+}
+
+/// The entries whose count is above 0.
+fn counted(mut entries: Vec<Entry>) -> Vec<Entry>
+    ensures { result.items ≡ filter (λ entry. nat_lt 0 entry.home.count) entries.items }
+{
+    entries.retain(|entry| entry.home.count > 0);
+    entries
+}
+
+/// The sum of the counts of a few entries, each of which is small.
+fn sum_of_counts(entries: &[Entry]) -> u64
+    requires few { length entries.now ≤ 2 ^ 40 }
+    requires counts { All (λ entry. entry.home.count ≤ 1048576) entries.now }
+    ensures { result ≡ sum_by (λ entry. entry.home.count) entries.now }
+{
+    let mut sum = 0;
+    'entries: for entry in entries {
+        sum += entry.home.count;
+    }
+    sum
+}
+
+/// The byte of each lane's mode.
+fn mode_bytes(modes: &[Mode; 16]) -> [u8; 16]
+    ensures { result ≡ map mode_byte modes.now }
+{
+    let mut bytes = [0; 16];
+    'lanes: for i in 0..16 {
+        bytes[i] = byte_of(modes[i]);
+    }
+    bytes
+}
+
+/// 1 where there is a quota, else 0.
+fn quota_flag(quota: Option<u64>) -> u32
+    ensures { result ≡ flag_of quota }
+{
+    match quota {
+        Some(_) => 1,
+        None => 0,
+    }
+}
+
+/// The quota, and 0 where there is none.
+fn quota_number(quota: Option<u64>) -> u64
+    ensures { result ≡ quota_number quota }
+{
+    match quota {
+        Some(bytes) => bytes,
+        None => 0,
+    }
+}
+
+/// 1 where a flush has a checkpoint, else 0.
+fn checkpoint_flag(checkpoint: Option<Key>) -> u32
+    ensures { result ≡ flag_of checkpoint }
+{
+    match checkpoint {
+        Some(_) => 1,
+        None => 0,
+    }
+}
+
+/// The length of the checkpoint's key, and 0 where there is none.
+fn checkpoint_len(checkpoint: Option<Key>) -> u32
+    ensures { result ≡ checkpoint_len checkpoint }
+{
+    match checkpoint {
+        Some(key) => key.len,
+        None => 0,
+    }
+}
+
+/// The digest of the checkpoint's key, and zeros where there is none.
+fn checkpoint_digest(checkpoint: Option<Key>) -> [u8; 32]
+    ensures { result ≡ checkpoint_digest checkpoint }
+{
+    match checkpoint {
+        Some(key) => key.digest,
+        None => [0; 32],
+    }
+}
