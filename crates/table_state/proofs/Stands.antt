@@ -25,7 +25,7 @@ use Rattle.table_state.proofs.TableBack.{table_back, unique_rises, duplicate_ris
 use Rattle.table_state.proofs.Spelled.{slots_spelled, slots_long, entries_spelled, entries_long, changes_spelled, changes_long}
 
 -- places that are open on a disk are open on a longer one
-open_wider : (sectors longer : ℕ) → sectors ≤ longer → (named places : List ℕ) → AreOpen sectors named places → AreOpen longer named places
+pub open_wider : (sectors longer : ℕ) → sectors ≤ longer → (named places : List ℕ) → AreOpen sectors named places → AreOpen longer named places
 open_wider sectors longer le named [] all = tt
 open_wider sectors longer le named (place ∷ places) all =
     let here = is_open-parts sectors named place all.0 in

@@ -11,3 +11,4 @@ pub mod Afterwards
 pub mod PlannedRecords
 pub mod PlannedSlots
 pub mod PlannedSeals
+pub mod Syncs

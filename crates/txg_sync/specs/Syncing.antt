@@ -1,8 +1,9 @@
 -- When a group can be synced, and what its sync comes to.
-use Rattle.std.specs.Prelude.{◌≡◌, ◌⊎◌, ◌≤◌, ◌<◌, ◌+◌, ⊤, ℕ, Bool, true, false, not, ◌==◌, List, [], length, map, count_by, sum_by, slice_index_or, Option, Some, None}
+use Rattle.std.specs.Prelude.{◌≡◌, ◌≢◌, ◌⊎◌, ◌≤◌, ◌<◌, ◌+◌, ⊤, ℕ, Bool, true, false, not, ◌==◌, List, [], length, map, count_by, sum_by, slice_index_or, Option, Some, None}
 use Rattle.std.specs.List.{AllByRecursion, list_any}
 use Rattle.ddt_entry.specs.declared.entry.Change.{Change}
-use Rattle.disk_model.specs.Images.{Image}
+use Rattle.disk_model.specs.Images.{Image, sector_at}
+use Rattle.uber_ring.specs.Ring.{gate_sector, body_sector, slot_of}
 use Rattle.page_tree.specs.Chains.{pages_for}
 use Rattle.grant_book.specs.Sectors.{marked}
 use Rattle.pool_model.specs.Pool.{Pool, IsWellFormed}
@@ -64,3 +65,8 @@ BeforeOrAfter image held group pool table c = StandsFor held.tag c pool table �
 abbrev pub Syncs : (old : Option Image) → (held : Held) → (group : Group) → (next : Held) → (new : Option Image) → Type 0
 Syncs None held group next new = ⊤
 Syncs (Some image) held group next new = (c : Image) × (new ≡ Some c) × IsHeld c next (group_pool image held group) (table_after held group)
+
+-- what a crash at some moment of a sync leaves: the pool before or the one after the group, and every sector but those that nothing named, and the two of the group's slot of the ring, as it was
+pub record SyncLeaves (image : Image) (held : Held) (group : Group) (pool : Pool) (table : TableState) (c : Image) : Type 0 where
+  pub stands : BeforeOrAfter image held group pool table c
+  pub only : (at : ℕ) → at ≢ gate_sector (slot_of (held.group + 1)) → at ≢ body_sector (slot_of (held.group + 1)) → slice_index_or held.used at true ≡ true → sector_at c at ≡ sector_at image at

@@ -1,0 +1,91 @@
+-- What the plan of a group and its sealing come to, where the disk tells its contents and where it doesn't.
+use Rattle.std.proofs.Common.{◌≡◌, ◌≢◌, ℕ, ◌+◌, ◌^◌, ◌<◌, ◌≤◌, true, false, ◌==◌, List, [], ◌∷◌, ◌++◌, Option, Some, None, length, map, refl, sym, ap, subst, ◌∙◌, inl, inr, ⊎_elim, arith}
+use Rattle.std.specs.Prelude.{slice_index_or}
+use Rattle.std.specs.List.{AllByRecursion, list_any}
+use Rattle.std.proofs.lemmas.List.{length-map}
+use Rattle.disk_model.specs.Images.{Image, TellsImage, sector_at}
+use Rattle.disk_model.specs.Crashes.{LeavesOnly, NothingPending}
+use Rattle.disk_model.proofs.Moments.{weakened}
+use Rattle.page_tree.specs.Chains.{AreOpen}
+use Rattle.uber_ring.specs.Ring.{slot_of, gate_sector, body_sector}
+use Rattle.uber_ring.specs.declared.seal.Seal.{Seal}
+use Rattle.pool_model.specs.Pool.{Pool}
+use Rattle.pool_model.specs.Table.{TableState}
+use Rattle.table_state.specs.Flat.{StandsFor, flat_version}
+use Rattle.table_state.specs.Pools.{Held, IsHeld}
+use Rattle.table_state.specs.SealForms.{last_group}
+use Rattle.table_state.specs.Sound.{IsSound}
+use Rattle.table_state.specs.Sealed.{ChainPart, places_in, records_in}
+use Rattle.table_state.proofs.FlatLaws.{one_state}
+use Rattle.table_state.proofs.Stands.{open_wider}
+use Rattle.txg_sync.specs.Planning.{Group, IsPlan}
+use Rattle.txg_sync.specs.Syncing.{CanSync, CanSyncOver, IsInRange, BeforeOrAfter, SyncLeaves, Syncs, group_pool, table_after}
+use Rattle.txg_sync.specs.Writing.{group_places, with_roots, FollowsSeal, MayBeSealed, Seals, TouchesOnly}
+use Rattle.txg_sync.proofs.Outcomes.{stands_before_gate, not_written}
+use Rattle.txg_sync.proofs.Afterwards.{AreSpelt, held_after, stands_after}
+
+five_lists : (parts : List ChainPart) (a b c d e : List (List ℕ)) → map (λ part. part.records) parts ≡ a ∷ b ∷ c ∷ d ∷ e ∷ [] → length parts ≡ 5
+five_lists parts a b c d e are = sym (length-map parts (λ (part : ChainPart). part.records)) ∙ ap length are
+
+module _ (held : Held) (group : Group) (sound : IsSound held) (next : Held) (parts : List ChainPart) (seal : Seal) (plan : IsPlan held group next parts seal) where
+  -- five chains
+  pub five_chains : length parts ≡ 5
+  five_chains = five_lists parts _ _ _ _ _ plan.placed.spelled
+
+  pub seal_group_is : seal.group ≡ held.group + 1
+  seal_group_is = ap (λ (s : Seal). s.group) (plan.seal_is [])
+
+  pub seal_version_is : seal.version ≡ 0
+  seal_version_is = ap (λ (s : Seal). s.version) (plan.seal_is [])
+
+  -- on a disk that has the pool's sectors
+  pub open_on_disk : (sectors : ℕ) → held.sectors ≤ sectors → AreOpen sectors [] (places_in parts)
+  open_on_disk sectors there = open_wider (length held.used) sectors (omega (arith, there, sound.used_len)) [] (places_in parts) plan.placed.places_open
+
+  -- the seal is the next one
+  pub follows_newest : (told : Option Image) → CanSyncOver told held group → FollowsSeal seal.group told
+  follows_newest None can = tt
+  follows_newest (Some image) can = (
+    can.is_held.stands.seal,
+    can.is_held.stands.counts,
+    seal_group_is ∙ ap (λ n. n + 1) (can.is_held.group_is ∙ ap (λ (p : Pool). p.group) can.is_held.stands.pool_is),
+  )
+
+  module _ (range : IsInRange held group) (last : held.group + 1 ≤ last_group) (spelt : AreSpelt next.slots next.table) where
+    -- the group was synced
+    pub syncs_of : (sectors : ℕ) (old new : Option Image) → TellsImage sectors old → held.sectors ≤ sectors → sectors ≤ 2 ^ 64 → CanSyncOver old held group → Seals (slot_of seal.group) group.contents parts (with_roots seal parts) old new → Syncs old held group next new
+    syncs_of sectors None new tells there small can seals = tt
+    syncs_of sectors (Some image) new tells there small can seals = (
+      seals.0,
+      seals.1,
+      held_after held group sound range last next parts seal plan image (omega (arith, there, tells.count)) (omega (arith, small, tells.count)) can spelt (slot_of seal.group) seals.0 seals.2,
+    )
+
+    module _ (image : Image) (there : held.sectors ≤ length image) (small : length image ≤ 2 ^ 64) (can : CanSync image held group) (pool : Pool) (table : TableState) (is : IsHeld image held pool table) where
+      same_pool : (can.pool ≡ pool) × (can.table ≡ table)
+      same_pool = one_state held.tag image can.pool pool can.table table can.is_held.stands is.stands
+
+      untouched : (places : List ℕ) (c : Image) → TouchesOnly (slot_of seal.group) places image c → ((at : ℕ) → slice_index_or held.used at true ≡ true → list_any (λ place. place == at) places ≡ false)
+          → (at : ℕ) → at ≢ gate_sector (slot_of (held.group + 1)) → at ≢ body_sector (slot_of (held.group + 1)) → slice_index_or held.used at true ≡ true → sector_at c at ≡ sector_at image at
+      untouched places c only none at gate body used =
+          only.others at (λ e. gate (e ∙ ap (λ n. gate_sector (slot_of n)) seal_group_is)) (λ e. body (e ∙ ap (λ n. body_sector (slot_of n)) seal_group_is)) (none at used)
+
+      -- at each moment the pool before or the one after
+      pub leaves_of : (c : Image) → MayBeSealed (slot_of seal.group) group.contents parts (with_roots seal parts) image c → SyncLeaves image held group pool table c
+      leaves_of c may =
+          ⊎_elim
+          (λ unsealed. record {
+            stands = inl (subst (λ (t : TableState). StandsFor held.tag c pool t) same_pool.1 (subst (λ (p : Pool). StandsFor held.tag c p can.table) same_pool.0
+                (stands_before_gate image held group can sound parts plan.placed.unused (slot_of seal.group) c (omega arith) unsealed)));
+            only = untouched (group_places group.contents parts) c unsealed.only (not_written image held group can sound parts plan.placed.unused);
+          })
+          (λ sealed. record {
+            stands = inr (stands_after held group sound range last next parts seal plan image there small can spelt (slot_of seal.group) c sealed);
+            only = untouched (group_places group.contents parts) c sealed.only (not_written image held group can sound parts plan.placed.unused);
+          })
+          may
+
+      -- as it goes on
+      pub while_syncing : {D : Type 0} (clock : D → ℕ) (left_since : D → ℕ → Image → Type 0) (old new : D) → LeavesOnly clock left_since old new (MayBeSealed (slot_of seal.group) group.contents parts (with_roots seal parts) image) → LeavesOnly clock left_since old new (SyncLeaves image held group pool table)
+      while_syncing clock left_since old new run =
+          weakened clock left_since old new (MayBeSealed (slot_of seal.group) group.contents parts (with_roots seal parts) image) (SyncLeaves image held group pool table) run leaves_of
