@@ -21,8 +21,10 @@ use Rattle.pool_model.specs.Space.{is_used, lies_in, used_sectors}
 use Rattle.pool_model.specs.Table.{TableState, set_found, set_entry, drop_entry, entries_found, waiting_in}
 use Rattle.table_state.specs.Flat.{pointer_of}
 use Rattle.table_state.specs.Pools.{pool_after, with_blocks}
+use Rattle.table_state.specs.SlotRecords.{is_slot}
 use Rattle.table_state.specs.declared.slot_record.SlotRecord.{SlotRecord}
 use Rattle.table_state.proofs.Lists.{all_from, all_filter}
+use Rattle.table_state.proofs.SlotLaws.{is_slot-from}
 use Rattle.table_state.proofs.Sorted.{all_put}
 use Rattle.table_state.proofs.TablePuts.{entries_put}
 
@@ -137,6 +139,11 @@ waiting_runs table zap flush active =
 pub pointer_runs : (image : Image) (table : TableState) (slots : List SlotRecord) → AllByRecursion (λ slot. IsKeyLength slot.pointer.key.len) slots → AllByRecursion (λ (p : Pointer). run_length p.key ≡ 1) (map (pointer_of image table) slots)
 pointer_runs image table [] lens = tt
 pointer_runs image table (slot ∷ slots) lens = (one_sector slot.pointer.key lens.0, pointer_runs image table slots lens.1)
+
+-- slots in their ranges have keys of such lengths
+pub slot_lengths : (sectors group : ℕ) (slots : List SlotRecord) → AllByRecursion (λ slot. is_slot sectors group slot ≡ true) slots → AllByRecursion (λ slot. IsKeyLength slot.pointer.key.len) slots
+slot_lengths sectors group slots all =
+    all_from (λ (slot : SlotRecord). is_slot sectors group slot ≡ true) (λ (slot : SlotRecord). IsKeyLength slot.pointer.key.len) (λ slot is. (is_slot-from sectors group slot is).len) slots all
 
 -- the marks of a pool after a group are what it uses, where each key has a length in its range
 pub used_after : (sectors : ℕ) (pages : List ℕ) (image : Image) (contents : List Stored) (slots : List SlotRecord) (table : TableState) (modes : List Mode) (quota : Option ℕ) (group : ℕ)

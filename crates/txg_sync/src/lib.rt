@@ -13,10 +13,12 @@ mod begin;
 mod fault;
 mod fill;
 mod part;
+mod places;
 mod store;
 mod take;
 #[cfg(test)]
 mod tests;
+mod used;
 
 pub use begin::seal_new_pool;
 pub use fault::SealFault;
@@ -24,3 +26,4 @@ pub use fill::fill_slot;
 pub use part::ChainPages;
 pub use store::{store_group, write_blocks, write_parts};
 pub use take::take_slot;
+pub use used::used_after;
