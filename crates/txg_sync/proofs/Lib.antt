@@ -5,3 +5,4 @@ pub mod Storing
 pub mod Parts
 pub mod Filling
 pub mod Stored
+pub mod PlacedParts

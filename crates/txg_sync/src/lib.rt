@@ -24,6 +24,7 @@ pub use begin::seal_new_pool;
 pub use fault::SealFault;
 pub use fill::fill_slot;
 pub use part::ChainPages;
+pub use places::place_chains;
 pub use store::{store_group, write_blocks, write_parts};
 pub use take::take_slot;
 pub use used::used_after;

@@ -66,3 +66,37 @@ fn share_out(
     }
     Ok(parts)
 }
+
+/// The places of these blocks are used from now on.
+fn mark_blocks(used: &mut SectorSet, contents: &[StoredBlock])
+    ensures { used.new ≡ marked used.old (block_places (map stored_of contents.now)) }
+{
+    'contents: for stored in contents {
+        used.mark(stored.place);
+    }
+}
+
+/// Places the pages of the chains of these records, one chain after another, in the first sectors that
+/// aren't used, and where none of the group's blocks goes; `None` where such sectors are fewer than the
+/// pages. The error is want of memory.
+pub fn place_chains(
+    alloc: Global,
+    used: &SectorSet,
+    contents: &[StoredBlock],
+    lists: Vec<RecordList>,
+) -> Result<Option<Vec<ChainPages>>, AllocError>
+    requires ring { (sector : ℕ) → sector < 32 → slice_index_or used.now sector true ≡ true }
+    ensures placed { IfOk result (λ found. IfSome found (λ parts. ArePlaced used.now (map stored_of contents.now) (map (λ records. records.items) lists.items) parts.items)) }
+    ensures room { IfOk result (λ found. IfNone found (LacksRoom used.now (map stored_of contents.now) (map (λ records. records.items) lists.items))) }
+{
+    let mut taken = used.copied(alloc)?;
+    mark_blocks(&mut taken, contents);
+    let Some(pages) = pages_within(lists.as_slice(), taken.free()) else {
+        return Ok(None);
+    };
+    let Some(places) = taken.free_places(alloc, pages)? else {
+        return Ok(None);
+    };
+    let parts = share_out(alloc, lists, places.as_slice())?;
+    Ok(Some(parts))
+}
