@@ -100,3 +100,56 @@ pub fn place_chains(
     let parts = share_out(alloc, lists, places.as_slice())?;
     Ok(Some(parts))
 }
+
+#[cfg(test)]
+mod tests {
+    use super::*;
+    use pool_model::Block;
+    use std::test::Fail;
+
+    /// A list of so many records.
+    fn records_of(alloc: Global, count: u64) -> Result<RecordList, AllocError> {
+        let mut records = Vec::new(alloc);
+        records.resize(count as usize, [7; 72])?;
+        Ok(RecordList::from_vec(records))
+    }
+
+    /// The places of the chains of three lists in a pool that uses nothing but the ring, beside a block in
+    /// sector 33.
+    fn placed(alloc: Global, sectors: u64) -> Result<Option<Vec<ChainPages>>, AllocError>
+        requires { 32 ≤ sectors }
+    {
+        let used = SectorSet::with_ring(alloc, sectors)?;
+        let mut contents = Vec::new(alloc);
+        contents.push(StoredBlock {
+            place: 33,
+            block: Block::new(alloc),
+        })?;
+        let mut lists = Vec::new(alloc);
+        for count in [1, 0, 57] {
+            lists.push(records_of(alloc, count)?)?;
+        }
+        place_chains(alloc, &used, contents.as_slice(), lists)
+    }
+
+    #[test]
+    fn chains_get_the_first_sectors_that_are_free(rt: HostRuntime) -> Result<(), Fail> {
+        let parts = placed(rt.alloc(), 36)?.ok_or("three sectors are free")?;
+        assert_eq!(rt; parts.len(), 3);
+        for (part, (records, places)) in parts.iter().zip([
+            (1, [32].as_slice()),
+            (0, [].as_slice()),
+            (57, [34, 35].as_slice()),
+        ]) {
+            assert_eq!(rt; part.records.len(), records);
+            assert_eq!(rt; part.places.as_slice(), places, "{records} records");
+        }
+        Ok(())
+    }
+
+    #[test]
+    fn chains_that_do_not_fit_get_nothing(rt: HostRuntime) -> Result<(), Fail> {
+        assert!(rt; placed(rt.alloc(), 35)?.is_none());
+        Ok(())
+    }
+}
