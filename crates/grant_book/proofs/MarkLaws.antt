@@ -1,9 +1,10 @@
 -- Which sectors are used once others were marked.
-use Rattle.std.proofs.Common.{◌≡◌, ℕ, ◌+◌, ◌<◌, Bool, true, false, not, ◌||◌, ◌==◌, List, [], ◌∷◌, length, get_or, set, map, refl, sym, ap, ⊎_elim, ◌∙◌, arith}
-use Rattle.std.specs.Prelude.{nat_lt}
+use Rattle.std.proofs.Common.{◌≡◌, ℕ, ◌+◌, ◌<◌, ◌≤◌, Bool, true, false, not, ◌||◌, ◌==◌, List, [], ◌∷◌, length, get_or, set, map, refl, sym, ap, ⊎_elim, ◌∙◌, arith}
+use Rattle.std.specs.Prelude.{nat_lt, slice_index_or}
 use Rattle.std.specs.List.{list_any}
-use Rattle.std.proofs.lemmas.Bool.Decides.{eqb_tells}
-use Rattle.std.proofs.lemmas.List.{length-set, get_or-set_same, get_or-set_other}
+use Rattle.std.proofs.lemmas.Bool.{ltb-true, lt-ltb}
+use Rattle.std.proofs.lemmas.Bool.Decides.{eqb_tells, nat_tests}
+use Rattle.std.proofs.lemmas.List.{length-set, get_or-set_same, get_or-set_other, get_or_past}
 use Rattle.std.proofs.lemmas.List.FromFn.{length-map-range_with_len, get_or-map-range_with_len}
 use Rattle.grant_book.specs.Sectors.{marked, ring_used}
 
@@ -53,3 +54,13 @@ length-ring_used sectors = length-map-range_with_len (λ sector. nat_lt sector 3
 
 pub ring_used-at : (sectors at : ℕ) (default : Bool) → at < sectors → get_or (ring_used sectors) at default ≡ nat_lt at 32
 ring_used-at sectors at default within = get_or-map-range_with_len (λ sector. nat_lt sector 32) 0 sectors at at default within (omega arith)
+
+-- the ring's sectors are used in a pool of any size
+pub ring_is_used : (sectors sector : ℕ) → sector < 32 → slice_index_or (ring_used sectors) sector true ≡ true
+ring_is_used sectors sector first = by_order (nat_lt sector sectors) refl
+  where
+    by_order : (b : Bool) → nat_lt sector sectors ≡ b → slice_index_or (ring_used sectors) sector true ≡ true
+    by_order true within = ring_used-at sectors sector true (ltb-true sector sectors within) ∙ lt-ltb sector 32 first
+    by_order false past =
+        let none : sectors ≤ sector = grind (arith, nat_tests) in
+        get_or_past (ring_used sectors) sector true (omega (arith, none, length-ring_used sectors))

@@ -1,9 +1,11 @@
 -- The sectors that a pool uses, as marks: those of the ring, of the pages, of the pointers and of the homes that wait.
 use Rattle.std.proofs.Common.{◌≡◌, ℕ, ◌+◌, ◌<◌, ◌≤◌, Bool, true, false, not, ◌||◌, ◌==◌, List, [], ◌∷◌, Option, length, get_or, map, refl, sym, ap, ◌∙◌, arith}
-use Rattle.std.specs.Prelude.{nat_lt, filter, fold}
+use Rattle.std.specs.Prelude.{nat_lt, filter, fold, slice_index_or}
 use Rattle.std.specs.List.{AllByRecursion, list_any, range_with_len}
+use Rattle.std.proofs.lemmas.Bool.{ltb-true, lt-ltb}
 use Rattle.std.proofs.lemmas.Bool.Decides.{nat_tests}
-use Rattle.std.proofs.lemmas.List.FromFn.{fill_by_all}
+use Rattle.std.proofs.lemmas.List.{get_or_past}
+use Rattle.std.proofs.lemmas.List.FromFn.{fill_by_all, length-map-range_with_len, get_or-map-range_with_len}
 use Rattle.ddt_entry.specs.Changes.{key_in}
 use Rattle.ddt_entry.specs.Keys.{key_eq}
 use Rattle.ddt_entry.specs.Records.{IsKeyLength}
@@ -21,8 +23,10 @@ use Rattle.pool_model.specs.Space.{is_used, lies_in, used_sectors}
 use Rattle.pool_model.specs.Table.{TableState, set_found, set_entry, drop_entry, entries_found, waiting_in}
 use Rattle.table_state.specs.Flat.{pointer_of}
 use Rattle.table_state.specs.Pools.{pool_after, with_blocks}
+use Rattle.table_state.specs.SlotRecords.{is_slot}
 use Rattle.table_state.specs.declared.slot_record.SlotRecord.{SlotRecord}
 use Rattle.table_state.proofs.Lists.{all_from, all_filter}
+use Rattle.table_state.proofs.SlotLaws.{is_slot-from}
 use Rattle.table_state.proofs.Sorted.{all_put}
 use Rattle.table_state.proofs.TablePuts.{entries_put}
 
@@ -88,6 +92,22 @@ module _ (sectors : ℕ) (pages : List ℕ) (pool : Pool) (table : TableState) w
     pub used_is : marked (marked (marked (ring_used sectors) pages) (map (λ p. p.place) pool.pointers)) (map (λ entry. entry.home.place) (waiting_in table)) ≡ used_sectors sectors pages pool table
     used_is = fill_by_all (is_used pages pool table) (marked with_pointers waits) sectors false (length-marked waits with_pointers ∙ length-pointers) waits-at
 
+-- there are as many notes as sectors
+pub length-used_sectors : (sectors : ℕ) (pages : List ℕ) (pool : Pool) (table : TableState) → length (used_sectors sectors pages pool table) ≡ sectors
+length-used_sectors sectors pages pool table = length-map-range_with_len (is_used pages pool table) 0 sectors
+
+-- the sectors of the ring are used, whatever else is
+pub ring_is_used : (sectors : ℕ) (pages : List ℕ) (pool : Pool) (table : TableState) (sector : ℕ) → sector < 32 → slice_index_or (used_sectors sectors pages pool table) sector true ≡ true
+ring_is_used sectors pages pool table sector first = by_order (nat_lt sector sectors) refl
+  where
+    by_order : (b : Bool) → nat_lt sector sectors ≡ b → slice_index_or (used_sectors sectors pages pool table) sector true ≡ true
+    by_order true within =
+        get_or-map-range_with_len (is_used pages pool table) 0 sectors sector sector true (ltb-true sector sectors within) (omega arith)
+        ∙ ap (λ b. b || list_any (λ page. page == sector) pages || list_any (λ (p : Pointer). lies_in sector p.place (run_length p.key)) pool.pointers || list_any (λ (entry : Entry). lies_in sector entry.home.place (run_length entry.key)) (waiting_in table)) (lt-ltb sector 32 first)
+    by_order false past =
+        let none : sectors ≤ sector = grind (arith, nat_tests) in
+        get_or_past (used_sectors sectors pages pool table) sector true (omega (arith, none, length-used_sectors sectors pages pool table))
+
 -- ---- What counts of a pool
 
 -- a test that looks at a pointer's place and key alone finds the same over any image and any table
@@ -137,6 +157,11 @@ waiting_runs table zap flush active =
 pub pointer_runs : (image : Image) (table : TableState) (slots : List SlotRecord) → AllByRecursion (λ slot. IsKeyLength slot.pointer.key.len) slots → AllByRecursion (λ (p : Pointer). run_length p.key ≡ 1) (map (pointer_of image table) slots)
 pointer_runs image table [] lens = tt
 pointer_runs image table (slot ∷ slots) lens = (one_sector slot.pointer.key lens.0, pointer_runs image table slots lens.1)
+
+-- slots in their ranges have keys of such lengths
+pub slot_lengths : (sectors group : ℕ) (slots : List SlotRecord) → AllByRecursion (λ slot. is_slot sectors group slot ≡ true) slots → AllByRecursion (λ slot. IsKeyLength slot.pointer.key.len) slots
+slot_lengths sectors group slots all =
+    all_from (λ (slot : SlotRecord). is_slot sectors group slot ≡ true) (λ (slot : SlotRecord). IsKeyLength slot.pointer.key.len) (λ slot is. (is_slot-from sectors group slot is).len) slots all
 
 -- the marks of a pool after a group are what it uses, where each key has a length in its range
 pub used_after : (sectors : ℕ) (pages : List ℕ) (image : Image) (contents : List Stored) (slots : List SlotRecord) (table : TableState) (modes : List Mode) (quota : Option ℕ) (group : ℕ)

@@ -12,3 +12,4 @@ pub mod PlannedRecords
 pub mod PlannedSlots
 pub mod PlannedSeals
 pub mod Syncs
+pub mod PlacedParts

@@ -18,10 +18,12 @@ mod fits;
 mod group_seal;
 mod next_slots;
 mod part;
+mod places;
 mod store;
 mod take;
 #[cfg(test)]
 mod tests;
+mod used;
 
 pub use begin::seal_new_pool;
 pub use chain_records::records_of;
@@ -32,5 +34,7 @@ pub use fits::{slots_fit, table_fits};
 pub use group_seal::seal_of;
 pub use next_slots::slots_after;
 pub use part::ChainPages;
+pub use places::place_chains;
 pub use store::{store_group, write_blocks, write_parts};
 pub use take::take_slot;
+pub use used::used_after;

@@ -1,0 +1,155 @@
+ghost use Rattle.std.specs.Prelude.{◌≡◌, ◌<◌, ◌≤◌, ◌+◌, ℕ, true, length, map, take, drop, slice_index_or, IfOk, IfSome, IfNone};
+ghost use Rattle.page_tree.specs.Chains.{pages_for};
+ghost use Rattle.pool_model.specs.Plain.{stored_of};
+ghost use Rattle.grant_book.specs.Sectors.{marked};
+ghost use Rattle.txg_sync.specs.Placing.{pages_of, parts_of, ArePlaced, LacksRoom};
+ghost use Rattle.txg_sync.specs.Writing.{block_places};
+
+use crate::part::ChainPages;
+use grant_book::SectorSet;
+use page_tree::{PAGE_RECORDS, RecordList};
+use pool_model::{PlaceList, StoredBlock};
+use std::alloc::{AllocError, Global};
+
+/// How many pages so many records take.
+fn pages_for(records: u64) -> u64
+    ensures { result ≡ pages_for records }
+{
+    records.div_ceil(PAGE_RECORDS as u64)
+}
+
+/// How many pages the chains of these records take, or nothing where they are more than `free`.
+fn pages_within(lists: &[RecordList], free: u64) -> Option<u64>
+    ensures counted { IfSome result (λ pages. (pages ≡ pages_of (map (λ records. records.items) lists.now)) × (pages ≤ free)) }
+    ensures lacking { IfNone result (free < pages_of (map (λ records. records.items) lists.now)) }
+{
+    let mut pages = 0;
+    'lists: for records in lists {
+        let more = pages_for(records.len());
+        if more > free - pages {
+            return None;
+        }
+        pages += more;
+    }
+    Some(pages)
+}
+
+/// So many of the places, from one on. The error is want of memory.
+fn piece(alloc: Global, places: &[u64], from: u64, count: u64) -> Result<PlaceList, AllocError>
+    requires { from + count ≤ length places.now }
+    ensures { IfOk result (λ own. own.items ≡ take count (drop from places.now)) }
+{
+    let behind = places.split_at(from as usize).1;
+    let own = behind.split_at(count as usize).0;
+    Ok(PlaceList::from_vec(Vec::from_slice(alloc, own)?))
+}
+
+/// Gives each chain the places of its pages, one chain after another.
+fn share_out(
+    alloc: Global,
+    lists: Vec<RecordList>,
+    places: &[u64],
+) -> Result<Vec<ChainPages>, AllocError>
+    requires { length places.now ≡ pages_of (map (λ records. records.items) lists.items) }
+    ensures { IfOk result (λ parts. parts.items ≡ parts_of (map (λ records. records.items) lists.items) places.now) }
+{
+    let mut parts = Vec::new(alloc);
+    let mut from = 0;
+    'lists: for records in lists {
+        let count = pages_for(records.len());
+        let own = piece(alloc, places, from, count)?;
+        parts.push(ChainPages {
+            places: own,
+            records,
+        })?;
+        from += count;
+    }
+    Ok(parts)
+}
+
+/// The places of these blocks are used from now on.
+fn mark_blocks(used: &mut SectorSet, contents: &[StoredBlock])
+    ensures { used.new ≡ marked used.old (block_places (map stored_of contents.now)) }
+{
+    'contents: for stored in contents {
+        used.mark(stored.place);
+    }
+}
+
+/// Places the pages of the chains of these records, one chain after another, in the first sectors that
+/// aren't used, and where none of the group's blocks goes; `None` where such sectors are fewer than the
+/// pages. The error is want of memory.
+pub fn place_chains(
+    alloc: Global,
+    used: &SectorSet,
+    contents: &[StoredBlock],
+    lists: Vec<RecordList>,
+) -> Result<Option<Vec<ChainPages>>, AllocError>
+    requires ring { (sector : ℕ) → sector < 32 → slice_index_or used.now sector true ≡ true }
+    ensures placed { IfOk result (λ found. IfSome found (λ parts. ArePlaced used.now (map stored_of contents.now) (map (λ records. records.items) lists.items) parts.items)) }
+    ensures room { IfOk result (λ found. IfNone found (LacksRoom used.now (map stored_of contents.now) (map (λ records. records.items) lists.items))) }
+{
+    let mut taken = used.copied(alloc)?;
+    mark_blocks(&mut taken, contents);
+    let Some(pages) = pages_within(lists.as_slice(), taken.free()) else {
+        return Ok(None);
+    };
+    let Some(places) = taken.free_places(alloc, pages)? else {
+        return Ok(None);
+    };
+    let parts = share_out(alloc, lists, places.as_slice())?;
+    Ok(Some(parts))
+}
+
+#[cfg(test)]
+mod tests {
+    use super::*;
+    use pool_model::Block;
+    use std::test::Fail;
+
+    /// A list of so many records.
+    fn records_of(alloc: Global, count: u64) -> Result<RecordList, AllocError> {
+        let mut records = Vec::new(alloc);
+        records.resize(count as usize, [7; 72])?;
+        Ok(RecordList::from_vec(records))
+    }
+
+    /// The places of the chains of three lists in a pool that uses nothing but the ring, beside a block in
+    /// sector 33.
+    fn placed(alloc: Global, sectors: u64) -> Result<Option<Vec<ChainPages>>, AllocError>
+        requires { 32 ≤ sectors }
+    {
+        let used = SectorSet::with_ring(alloc, sectors)?;
+        let mut contents = Vec::new(alloc);
+        contents.push(StoredBlock {
+            place: 33,
+            block: Block::new(alloc),
+        })?;
+        let mut lists = Vec::new(alloc);
+        for count in [1, 0, 57] {
+            lists.push(records_of(alloc, count)?)?;
+        }
+        place_chains(alloc, &used, contents.as_slice(), lists)
+    }
+
+    #[test]
+    fn chains_get_the_first_sectors_that_are_free(rt: HostRuntime) -> Result<(), Fail> {
+        let parts = placed(rt.alloc(), 36)?.ok_or("three sectors are free")?;
+        assert_eq!(rt; parts.len(), 3);
+        for (part, (records, places)) in parts.iter().zip([
+            (1, [32].as_slice()),
+            (0, [].as_slice()),
+            (57, [34, 35].as_slice()),
+        ]) {
+            assert_eq!(rt; part.records.len(), records);
+            assert_eq!(rt; part.places.as_slice(), places, "{records} records");
+        }
+        Ok(())
+    }
+
+    #[test]
+    fn chains_that_do_not_fit_get_nothing(rt: HostRuntime) -> Result<(), Fail> {
+        assert!(rt; placed(rt.alloc(), 35)?.is_none());
+        Ok(())
+    }
+}
