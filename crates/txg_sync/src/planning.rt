@@ -1,0 +1,124 @@
+ghost use Rattle.std.specs.Prelude.{◌≡◌, ◌≤◌, ◌+◌, ◌++◌, ◌∷◌, [], List, IfOk, IfNone, IfSome};
+ghost use Rattle.page_tree.specs.Pointers.{null_pointer};
+ghost use Rattle.page_tree.specs.declared.pointer.PagePtr.{PagePtr};
+ghost use Rattle.pool_model.specs.Table.{sync_table};
+ghost use Rattle.table_state.specs.SealForms.{last_group};
+ghost use Rattle.table_state.specs.Sealed.{places_in, seal_of};
+ghost use Rattle.table_state.specs.Tables.{IsTableWithin};
+ghost use Rattle.table_state.specs.Sound.{IsSound};
+ghost use Rattle.txg_sync.specs.Planning.{group_in, IsPlan};
+ghost use Rattle.txg_sync.specs.Placing.{LacksRoom};
+ghost use Rattle.txg_sync.specs.Syncing.{IsInRange, records_after};
+
+use crate::chain_records::records_of;
+use crate::group_seal::seal_of;
+use crate::next_slots::slots_after;
+use crate::part::ChainPages;
+use crate::places::place_chains;
+use crate::used::used_after;
+use page_tree::SectorList;
+use plain_table::PlainTable;
+use pool_model::Closed;
+use std::alloc::{AllocError, Global};
+use table_state::Pool;
+use uber_ring::Seal;
+
+/// The most homes of a table whose counts are added up. No memory holds so many.
+const MOST_HOMES: usize = 1 << 40;
+
+/// What a sync is going to write.
+#[derive(Drop)]
+pub struct Plan {
+    /// The pool after the group.
+    pub next: Pool,
+    /// Its five chains: slots, unique, duplicate, active, flushing.
+    pub parts: Vec<ChainPages>,
+    /// Its seal, with null pointers in place of the chains' roots.
+    pub seal: Seal,
+}
+
+/// The sectors of all pages, chain by chain. The error is want of memory.
+fn pages_of(alloc: Global, parts: &[ChainPages]) -> Result<SectorList, AllocError>
+    ensures { IfOk result (λ pages. pages.items ≡ places_in parts.now) }
+{
+    let mut pages = Vec::new(alloc);
+    'parts: for part in parts {
+        pages.extend_from_slice(part.places.as_slice())?;
+    }
+    Ok(SectorList::from_vec(pages))
+}
+
+/// The table after the group. The error is want of memory.
+fn table_of(alloc: Global, pool: &Pool, closed: &Closed) -> Result<PlainTable, AllocError>
+    ensures { IfOk result (λ table. table ≡ sync_table closed.now.changes.items pool.now.table) }
+{
+    let table = pool.table.copied(alloc)?;
+    table.sync_table(alloc, closed.changes.as_slice())
+}
+
+/// The seal of the group, once it is seen that its homes can be counted. The error is want of memory.
+fn seal_after(
+    alloc: Global,
+    pool: &Pool,
+    closed: &Closed,
+    table: &PlainTable,
+    pages: u64,
+) -> Result<Seal, AllocError>
+    requires last { pool.now.group + 1 ≤ last_group }
+    requires within { IsTableWithin pool.now.sectors (pool.now.group + 1) table.now }
+    ensures { IfOk result (λ seal. (roots : List PagePtr) → record seal { pointers = roots ++ null_pointer ∷ [] }
+        ≡ seal_of pool.now.tag pool.now.sectors (pool.now.group + 1) closed.now.modes closed.now.quota table.now roots pages) }
+{
+    let found = table.entries_found(alloc)?;
+    if found.len() > MOST_HOMES {
+        return Err(AllocError);
+    }
+    seal_of(
+        alloc,
+        pool.tag,
+        pool.sectors,
+        pool.sealed + 1,
+        &closed.modes,
+        closed.quota,
+        table,
+        pages,
+    )
+}
+
+/// Plans the sync of a group: takes all memory and chooses all places. `None` where fewer sectors are free
+/// than its pages need. The error is want of memory.
+pub fn plan_group(alloc: Global, pool: &Pool, closed: &Closed) -> Result<Option<Plan>, AllocError>
+    requires sound { IsSound pool.now }
+    requires range { IsInRange pool.now (group_in closed.now) }
+    requires last { pool.now.group + 1 ≤ last_group }
+    ensures planned { IfOk result (λ found. IfSome found (λ plan. IsPlan pool.now (group_in closed.now) plan.next plan.parts.items plan.seal)) }
+    ensures room { IfOk result (λ found. IfNone found (LacksRoom pool.now.used (group_in closed.now).contents (records_after pool.now (group_in closed.now)))) }
+{
+    let slots = slots_after(alloc, &pool.slots, closed.slots.as_slice())?;
+    let table = table_of(alloc, pool, closed)?;
+    let lists = records_of(alloc, slots.as_slice(), &table)?;
+    let Some(parts) = place_chains(alloc, &pool.used, closed.contents.as_slice(), lists)? else {
+        return Ok(None);
+    };
+    let pages = pages_of(alloc, parts.as_slice())?;
+    let seal = seal_after(alloc, pool, closed, &table, pages.len())?;
+    let used = used_after(
+        alloc,
+        pool.sectors,
+        pages.as_slice(),
+        slots.as_slice(),
+        &table,
+    )?;
+    let next = Pool {
+        slots,
+        table,
+        pages,
+        used,
+        modes: closed.modes,
+        limit: closed.quota,
+        tag: pool.tag,
+        sealed: pool.sealed + 1,
+        sectors: pool.sectors,
+    };
+    Ok(Some(Plan { next, parts, seal }))
+}
