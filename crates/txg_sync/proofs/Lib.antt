@@ -5,6 +5,7 @@ pub mod Storing
 pub mod Parts
 pub mod Filling
 pub mod Stored
+pub mod PlannedLimits
 pub mod PlannedRecords
 pub mod PlannedSlots
 pub mod PlannedSeals
