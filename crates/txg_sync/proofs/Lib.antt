@@ -8,8 +8,10 @@ pub mod Stored
 pub mod Groups
 pub mod Outcomes
 pub mod Afterwards
+pub mod PlannedLimits
 pub mod PlannedRecords
 pub mod PlannedSlots
 pub mod PlannedSeals
 pub mod Syncs
 pub mod PlacedParts
+pub mod Planned

@@ -17,7 +17,6 @@ use Rattle.table_state.specs.Pools.{Held}
 use Rattle.table_state.specs.Sealed.{ChainPart, places_in, records_in}
 use Rattle.table_state.proofs.Lists.{all_from}
 use Rattle.txg_sync.specs.Placing.{pages_of, parts_of, ArePlaced}
-use Rattle.txg_sync.specs.Planning.{Group, ArePlanned}
 use Rattle.txg_sync.specs.Writing.{block_places}
 
 -- ---- How many pages
@@ -129,15 +128,3 @@ placed_by_steps used copied taken contents ring lists seen wanted found places g
     (subst (λ (ts : List Bool). AreFirstFree ts wanted places.items) (marks ∙ ap (λ (us : List Bool). marked us (block_places contents)) copy) (subst (FindsFree taken wanted) is finds))
     (count ∙ ap (λ (ls : List (Listed (List ℕ))). pages_of (map (λ (l : Listed (List ℕ)). l.items) ls)) same)
     (shared ∙ ap (parts_of (map (λ (l : Listed (List ℕ)). l.items) lists)) named)
-
--- ---- The plan of a sync
-
--- chains that are placed beside what a pool uses are as a sync plans them
-pub planned_if_placed : (held next : Held) (group : Group) (lists : List (List (List ℕ))) (parts : List ChainPart) → length held.used ≡ held.sectors → lists ≡ records_in next.slots next.table → ArePlaced held.used group.contents lists parts → ArePlanned held group next parts
-planned_if_placed held next group lists parts count given are = record {
-  spelled = are.spelled ∙ given;
-  pages = are.pages;
-  places_open = subst (λ sectors. AreOpen sectors [] (places_in parts)) count are.places_open;
-  unused = are.unused;
-  no_block = are.no_block;
-}

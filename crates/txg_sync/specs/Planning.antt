@@ -10,9 +10,10 @@ use Rattle.pool_model.specs.declared.closed.Closed.{Closed}
 use Rattle.pool_model.specs.declared.closed.SlotChange.{SlotChange}
 use Rattle.pool_model.specs.Plain.{Stored, stored_of}
 use Rattle.pool_model.specs.Space.{used_sectors}
-use Rattle.pool_model.specs.Table.{sync_table}
+use Rattle.pool_model.specs.Table.{TableState, sync_table}
 use Rattle.uber_ring.specs.declared.seal.Seal.{Seal}
-use Rattle.txg_sync.specs.Placing.{ArePlaced}
+use Rattle.table_state.specs.declared.slot_record.SlotRecord.{SlotRecord}
+use Rattle.txg_sync.specs.Placing.{ArePlaced, AreUsed}
 use Rattle.table_state.specs.Pools.{Held, slots_after, pool_after}
 use Rattle.table_state.specs.Sealed.{ChainPart, places_in, records_in, seal_of}
 
@@ -33,6 +34,18 @@ pub record IsNext (held : Held) (group : Group) (pages : List ℕ) (next : Held)
   pub table_is : next.table ≡ sync_table group.log held.table
   pub pages_are : next.pages ≡ pages
   pub used_are : next.used ≡ used_sectors held.sectors pages (pool_after [] [] next.slots next.table group.modes group.quota (held.group + 1)) next.table
+  pub modes_are : next.modes ≡ group.modes
+  pub quota_is : next.quota ≡ group.quota
+  pub tag_is : next.tag ≡ held.tag
+  pub group_is : next.group ≡ held.group + 1
+  pub sectors_are : next.sectors ≡ held.sectors
+
+-- a pool in memory that is made of these
+pub record IsMadeOf (held : Held) (group : Group) (slots : List SlotRecord) (table : TableState) (pages : List ℕ) (next : Held) : Type 0 where
+  pub slots_are : next.slots ≡ slots
+  pub table_is : next.table ≡ table
+  pub pages_are : next.pages ≡ pages
+  pub used_are : AreUsed held.sectors pages slots table next.used
   pub modes_are : next.modes ≡ group.modes
   pub quota_is : next.quota ≡ group.quota
   pub tag_is : next.tag ≡ held.tag

@@ -1,4 +1,4 @@
-ghost use Rattle.std.specs.Prelude.{◌≡◌, ◌==◌, All, IfOk, map, filter, nat_lt};
+ghost use Rattle.std.specs.Prelude.{◌≡◌, All, IfOk, map};
 ghost use Rattle.ddt_entry.specs.Changes.{key_in};
 ghost use Rattle.ddt_entry.specs.Records.{record_bytes, IsKeyLength};
 ghost use Rattle.table_state.specs.Sealed.{entry_bytes, records_in};

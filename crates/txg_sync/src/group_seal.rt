@@ -3,7 +3,6 @@ ghost use Rattle.page_tree.specs.Pointers.{null_pointer};
 ghost use Rattle.page_tree.specs.declared.pointer.PagePtr.{PagePtr};
 ghost use Rattle.pool_model.specs.Table.{entries_found};
 ghost use Rattle.table_state.specs.SealForms.{mode_byte};
-ghost use Rattle.table_state.specs.Flat.{counted_homes};
 ghost use Rattle.table_state.specs.Sealed.{flag_of, quota_number, checkpoint_len, checkpoint_digest, seal_of};
 
 use ddt_entry::{Entry, Key};

@@ -1,4 +1,4 @@
-ghost use Rattle.std.specs.Prelude.{◌≡◌, IfOk, filter, fold, not, position};
+ghost use Rattle.std.specs.Prelude.{◌≡◌, IfOk, filter, not, position};
 ghost use Rattle.table_state.specs.Flat.{stands_before};
 ghost use Rattle.table_state.specs.Pools.{is_slot_at, insert_slot, set_slot, slots_after};
 

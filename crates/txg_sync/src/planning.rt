@@ -1,13 +1,16 @@
-ghost use Rattle.std.specs.Prelude.{◌≡◌, ◌≤◌, ◌+◌, ◌++◌, ◌∷◌, [], List, IfOk, IfNone, IfSome};
+ghost use Rattle.std.specs.Prelude.{◌≡◌, ◌≤◌, ◌<◌, ◌+◌, ◌++◌, ◌∷◌, [], ℕ, true, List, slice_index_or, IfOk, IfNone, IfSome};
+ghost use Rattle.std.specs.List.{AllByRecursion};
+ghost use Rattle.ddt_entry.specs.Records.{IsKeyLength};
 ghost use Rattle.page_tree.specs.Pointers.{null_pointer};
 ghost use Rattle.page_tree.specs.declared.pointer.PagePtr.{PagePtr};
 ghost use Rattle.pool_model.specs.Table.{sync_table};
 ghost use Rattle.table_state.specs.SealForms.{last_group};
-ghost use Rattle.table_state.specs.Sealed.{places_in, seal_of};
+ghost use Rattle.table_state.specs.Pools.{slots_after};
+ghost use Rattle.table_state.specs.Sealed.{places_in, records_in, seal_of};
 ghost use Rattle.table_state.specs.Tables.{IsTableWithin};
-ghost use Rattle.table_state.specs.Sound.{IsSound};
-ghost use Rattle.txg_sync.specs.Planning.{group_in, IsPlan};
-ghost use Rattle.txg_sync.specs.Placing.{LacksRoom};
+ghost use Rattle.table_state.specs.Sound.{IsSound, HasKeyLengths};
+ghost use Rattle.txg_sync.specs.Planning.{group_in, IsMadeOf, IsPlan};
+ghost use Rattle.txg_sync.specs.Placing.{ArePlaced, LacksRoom};
 ghost use Rattle.txg_sync.specs.Syncing.{IsInRange, records_after};
 
 use crate::chain_records::records_of;
@@ -20,7 +23,7 @@ use page_tree::SectorList;
 use plain_table::PlainTable;
 use pool_model::Closed;
 use std::alloc::{AllocError, Global};
-use table_state::Pool;
+use table_state::{Pool, SlotList, SlotRecord};
 use uber_ring::Seal;
 
 /// The most homes of a table whose counts are added up. No memory holds so many.
@@ -85,23 +88,46 @@ fn seal_after(
     )
 }
 
-/// Plans the sync of a group: takes all memory and chooses all places. `None` where fewer sectors are free
-/// than its pages need. The error is want of memory.
-pub fn plan_group(alloc: Global, pool: &Pool, closed: &Closed) -> Result<Option<Plan>, AllocError>
-    requires sound { IsSound pool.now }
-    requires range { IsInRange pool.now (group_in closed.now) }
-    requires last { pool.now.group + 1 ≤ last_group }
-    ensures planned { IfOk result (λ found. IfSome found (λ plan. IsPlan pool.now (group_in closed.now) plan.next plan.parts.items plan.seal)) }
-    ensures room { IfOk result (λ found. IfNone found (LacksRoom pool.now.used (group_in closed.now).contents (records_after pool.now (group_in closed.now)))) }
+/// The slots after the group. The error is want of memory.
+fn slots_of(alloc: Global, pool: &Pool, closed: &Closed) -> Result<SlotList, AllocError>
+    ensures { IfOk result (λ slots. slots.items ≡ slots_after closed.now.slots.items pool.now.slots) }
 {
-    let slots = slots_after(alloc, &pool.slots, closed.slots.as_slice())?;
-    let table = table_of(alloc, pool, closed)?;
-    let lists = records_of(alloc, slots.as_slice(), &table)?;
-    let Some(parts) = place_chains(alloc, &pool.used, closed.contents.as_slice(), lists)? else {
-        return Ok(None);
-    };
-    let pages = pages_of(alloc, parts.as_slice())?;
-    let seal = seal_after(alloc, pool, closed, &table, pages.len())?;
+    slots_after(alloc, &pool.slots, closed.slots.as_slice())
+}
+
+/// The chains of these slots and this table, at places that nothing uses; `None` where fewer sectors are
+/// free than their pages need. The error is want of memory.
+fn chains_of(
+    alloc: Global,
+    pool: &Pool,
+    closed: &Closed,
+    slots: &[SlotRecord],
+    table: &PlainTable,
+) -> Result<Option<Vec<ChainPages>>, AllocError>
+    requires ring { (sector : ℕ) → sector < 32 → slice_index_or pool.now.used sector true ≡ true }
+    requires lengths { HasKeyLengths table.now }
+    ensures placed { IfOk result (λ found. IfSome found (λ parts. ArePlaced pool.now.used (group_in closed.now).contents (records_in slots.now table.now) parts.items)) }
+    ensures room { IfOk result (λ found. IfNone found (LacksRoom pool.now.used (group_in closed.now).contents (records_in slots.now table.now))) }
+{
+    let lists = records_of(alloc, slots, table)?;
+    place_chains(alloc, &pool.used, closed.contents.as_slice(), lists)
+}
+
+/// The pool after the group, of these slots, this table, and pages in these sectors. The error is want of memory.
+fn next_of(
+    alloc: Global,
+    pool: &Pool,
+    closed: &Closed,
+    slots: SlotList,
+    table: PlainTable,
+    pages: SectorList,
+) -> Result<Pool, AllocError>
+    requires enough { 32 ≤ pool.now.sectors }
+    requires last { pool.now.group + 1 ≤ last_group }
+    requires slots { AllByRecursion (λ slot. IsKeyLength slot.pointer.key.len) slots.items }
+    requires lengths { HasKeyLengths table }
+    ensures { IfOk result (λ next. IsMadeOf pool.now (group_in closed.now) slots.items table pages.items next) }
+{
     let used = used_after(
         alloc,
         pool.sectors,
@@ -109,7 +135,7 @@ pub fn plan_group(alloc: Global, pool: &Pool, closed: &Closed) -> Result<Option<
         slots.as_slice(),
         &table,
     )?;
-    let next = Pool {
+    Ok(Pool {
         slots,
         table,
         pages,
@@ -119,6 +145,25 @@ pub fn plan_group(alloc: Global, pool: &Pool, closed: &Closed) -> Result<Option<
         tag: pool.tag,
         sealed: pool.sealed + 1,
         sectors: pool.sectors,
+    })
+}
+
+/// Plans the sync of a group: takes all memory and chooses all places. `None` where fewer sectors are free
+/// than its pages need. The error is want of memory.
+pub fn plan_group(alloc: Global, pool: &Pool, closed: &Closed) -> Result<Option<Plan>, AllocError>
+    requires sound { IsSound pool.now }
+    requires range { IsInRange pool.now (group_in closed.now) }
+    requires last { pool.now.group + 1 ≤ last_group }
+    ensures planned { IfOk result (λ found. IfSome found (λ plan. IsPlan pool.now (group_in closed.now) plan.next plan.parts.items plan.seal)) }
+    ensures room { IfOk result (λ found. IfNone found (LacksRoom pool.now.used (group_in closed.now).contents (records_after pool.now (group_in closed.now)))) }
+{
+    let slots = slots_of(alloc, pool, closed)?;
+    let table = table_of(alloc, pool, closed)?;
+    let Some(parts) = chains_of(alloc, pool, closed, slots.as_slice(), &table)? else {
+        return Ok(None);
     };
+    let pages = pages_of(alloc, parts.as_slice())?;
+    let seal = seal_after(alloc, pool, closed, &table, pages.len())?;
+    let next = next_of(alloc, pool, closed, slots, table, pages)?;
     Ok(Some(Plan { next, parts, seal }))
 }
