@@ -1,3 +1,5 @@
 pub mod Spelled
 pub mod Parts
 pub mod Whole
+pub mod Lengths
+pub mod Marks

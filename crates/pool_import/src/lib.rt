@@ -9,6 +9,7 @@
 
 mod changes;
 mod flat;
+mod marks;
 mod parts;
 mod records;
 mod slots;
