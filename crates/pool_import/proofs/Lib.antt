@@ -1,2 +1,4 @@
 pub mod Readings
 pub mod Flats
+pub mod JudgingLists
+pub mod JudgingOwners
