@@ -2,3 +2,4 @@ pub mod Readings
 pub mod Flats
 pub mod JudgingLists
 pub mod JudgingOwners
+pub mod JudgingFound
