@@ -1,7 +1,8 @@
 -- What holds of each element of a list, or of each two.
-use Rattle.std.proofs.Common.{◌≡◌, ℕ, zero, suc, ◌+◌, ◌<◌, Bool, true, false, cond, List, [], ◌∷◌, ◌++◌, length, map, Option, Some, None, refl, sym, ap, subst, ◌∙◌, arith}
+use Rattle.std.proofs.Common.{◌≡◌, ℕ, zero, suc, ◌+◌, ◌<◌, Bool, true, false, cond, ◌&&◌, List, [], ◌∷◌, ◌++◌, length, map, Option, Some, None, refl, sym, ap, subst, ◌∙◌, arith}
 use Rattle.std.specs.Prelude.{filter, fold, slice_get}
-use Rattle.std.specs.List.{AllByRecursion}
+use Rattle.std.specs.List.{AllByRecursion, list_all}
+use Rattle.std.proofs.lemmas.Bool.{false≢true, and_parts}
 use Rattle.pool_model.specs.Pool.{Pairwise}
 
 -- what holds of each holds of the one at a place
@@ -90,3 +91,27 @@ pairs_weaker P R S weaker (x ∷ xs) each pairs =
 pub pairs_both : {X : Type 0} (R S U : X → X → Type 0) → ((a b : X) → R a b → S a b → U a b) → (xs : List X) → Pairwise R xs → Pairwise S xs → Pairwise U xs
 pairs_both R S U both [] first second = tt
 pairs_both R S U both (x ∷ xs) first second = (every_both (R x) (S x) (U x) (both x) xs first.0 second.0, pairs_both R S U both xs first.1 second.1)
+
+-- what passed a test, as an implication on each
+pub every_unfilter : {X : Type 0} (P : X → Type 0) (test : X → Bool) (xs : List X) → AllByRecursion P (filter test xs) → AllByRecursion (λ x. test x ≡ true → P x) xs
+every_unfilter P test [] each = tt
+every_unfilter P test (x ∷ xs) each =
+    by_test (test x) each (λ rest. every_unfilter P test xs rest)
+  where
+    by_test : (b : Bool) → AllByRecursion P (cond b (x ∷ filter test xs) (filter test xs)) → (AllByRecursion P (filter test xs) → AllByRecursion (λ x. test x ≡ true → P x) xs) → (b ≡ true → P x) × AllByRecursion (λ x. test x ≡ true → P x) xs
+    by_test true each again = (λ _. each.0, again each.1)
+    by_test false each again = (λ is. absurd (false≢true is), again each)
+
+-- where none passes, nothing is left
+pub none_passes : {X : Type 0} (test : X → Bool) (xs : List X) → AllByRecursion (λ x. test x ≡ false) xs → filter test xs ≡ []
+none_passes test [] each = refl
+none_passes test (x ∷ xs) each = ap (λ b. cond b (x ∷ filter test xs) (filter test xs)) each.0 ∙ none_passes test xs each.1
+
+-- the test of a whole list
+pub list_all-each : {X : Type 0} (test : X → Bool) (xs : List X) → list_all test xs ≡ true → AllByRecursion (λ x. test x ≡ true) xs
+list_all-each test [] passed = tt
+list_all-each test (x ∷ xs) passed = let parts = and_parts (test x) (list_all test xs) passed in (parts.0, list_all-each test xs parts.1)
+
+pub each-list_all : {X : Type 0} (test : X → Bool) (xs : List X) → AllByRecursion (λ x. test x ≡ true) xs → list_all test xs ≡ true
+each-list_all test [] each = refl
+each-list_all test (x ∷ xs) each = ap (λ b. b && list_all test xs) each.0 ∙ each-list_all test xs each.1

@@ -3,3 +3,4 @@ pub mod Flats
 pub mod JudgingLists
 pub mod JudgingOwners
 pub mod JudgingFound
+pub mod JudgingHomes
