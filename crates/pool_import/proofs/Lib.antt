@@ -4,3 +4,5 @@ pub mod JudgingLists
 pub mod JudgingOwners
 pub mod JudgingFound
 pub mod JudgingHomes
+pub mod JudgingPairs
+pub mod JudgingUsed
