@@ -6,3 +6,4 @@ pub mod JudgingFound
 pub mod JudgingHomes
 pub mod JudgingPairs
 pub mod JudgingUsed
+pub mod JudgingWhole

@@ -1,6 +1,6 @@
 -- What the rules of the whole ask of a slot: the key, the place, and whether the table counts its pointer.
-use Rattle.std.specs.Prelude.{ℕ, ◌+◌, ◌-◌, Bool, true, false, not, ◌&&◌, ◌||◌, ◌==◌, List, [], ◌∷◌, count_by, slice_get, slice_index, slice_index_or, slice_set, Option, Some, None, if◌then◌else◌}
-use Rattle.std.specs.List.{list_all}
+use Rattle.std.specs.Prelude.{ℕ, ◌+◌, ◌-◌, Bool, nat_lt, true, false, not, ◌&&◌, ◌||◌, ◌==◌, List, [], ◌∷◌, map, count_by, slice_get, slice_index, slice_index_or, slice_set, Option, Some, None, if◌then◌else◌}
+use Rattle.std.specs.List.{range_with_len}
 use Rattle.ddt_entry.specs.Keys.{key_eq}
 use Rattle.ddt_entry.specs.declared.key.Key.{Key}
 use Rattle.ddt_entry.specs.declared.entry.Entry.{Entry}
@@ -63,3 +63,19 @@ marked used (place ∷ places) = marked (slice_set used place true) places
 abbrev pub taken : List Bool → List ℕ → Option (List Bool)
 taken used [] = Some used
 taken used (place ∷ places) = if slice_index_or used place false then None else taken (slice_set used place true) places
+
+-- ---- The sectors that a pool uses
+
+-- those of the ring
+abbrev pub ring_used : (sectors : ℕ) → List Bool
+ring_used sectors = map (λ s. nat_lt s 32) (range_with_len 0 sectors)
+
+abbrev pub places_of : List Spot → List ℕ
+places_of spots = map (λ spot. spot.place) spots
+
+abbrev pub places_in : List Entry → List ℕ
+places_in entries = map (λ entry. entry.home.place) entries
+
+-- whether no page lies at a slot's place
+abbrev pub is_clear : List Bool → Spot → Bool
+is_clear used spot = not (slice_index_or used spot.place false)

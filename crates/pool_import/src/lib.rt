@@ -9,6 +9,8 @@
 
 mod changes;
 mod flat;
+mod judge_counts;
+mod judge_places;
 mod marks;
 mod parts;
 mod records;
