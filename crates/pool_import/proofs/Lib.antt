@@ -7,3 +7,4 @@ pub mod JudgingHomes
 pub mod JudgingPairs
 pub mod JudgingUsed
 pub mod JudgingWhole
+pub mod JudgingAnswers

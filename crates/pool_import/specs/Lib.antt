@@ -3,3 +3,4 @@ pub mod Parts
 pub mod Whole
 pub mod Lengths
 pub mod Marks
+pub mod Judged

@@ -1,9 +1,10 @@
 -- What the rules of the whole ask of a slot: the key, the place, and whether the table counts its pointer.
-use Rattle.std.specs.Prelude.{ℕ, ◌+◌, ◌-◌, Bool, nat_lt, true, false, not, ◌&&◌, ◌||◌, ◌==◌, List, [], ◌∷◌, map, count_by, slice_get, slice_index, slice_index_or, slice_set, Option, Some, None, if◌then◌else◌}
+use Rattle.std.specs.Prelude.{ℕ, ◌+◌, ◌-◌, Bool, nat_lt, true, false, not, ◌&&◌, ◌||◌, ◌==◌, List, [], ◌∷◌, map, length, sum_by, count_by, slice_get, slice_index, slice_index_or, slice_set, Option, Some, None, if◌then◌else◌}
 use Rattle.std.specs.List.{range_with_len}
 use Rattle.ddt_entry.specs.Keys.{key_eq}
 use Rattle.ddt_entry.specs.declared.key.Key.{Key}
 use Rattle.ddt_entry.specs.declared.entry.Entry.{Entry}
+use Rattle.uber_ring.specs.declared.seal.Seal.{Seal}
 use Rattle.pool_model.specs.Pool.{Pointer, is_tracked}
 use Rattle.pool_model.specs.Table.{TableState, found}
 use Rattle.table_state.specs.Flat.{mark_of}
@@ -27,6 +28,10 @@ spot_in pointer = record { key = pointer.key; place = pointer.place; tracked = i
 -- whether the table counts it under a key
 abbrev pub counts_for : Key → Spot → Bool
 counts_for key spot = spot.tracked && key_eq spot.key key
+
+-- whether a seal's sums are right, for these homes and so many pages
+abbrev pub sums_agree : Seal → List Entry → (pages : ℕ) → Bool
+sums_agree seal homes pages = (seal.homes == length homes) && (seal.counts == sum_by (λ entry. entry.home.count) homes) && (seal.pages == pages)
 
 -- whether a home's count is the number of pointers that are counted under its key
 abbrev pub is_counted : List Spot → Entry → Bool

@@ -1,12 +1,13 @@
 ghost use Rattle.std.specs.Prelude.{◌≡◌, ◌==◌, ℕ, IfOk, nat_lt, filter, count_by, sum_by};
 ghost use Rattle.std.specs.List.{list_all};
 ghost use Rattle.table_state.specs.Flat.{counted_homes};
-ghost use Rattle.pool_import.specs.Marks.{counts_for, is_counted};
+ghost use Rattle.pool_import.specs.Marks.{counts_for, is_counted, sums_agree};
 
 use crate::marks::Spot;
 use ddt_entry::{Entry, Key};
 use plain_table::PlainTable;
 use std::alloc::{AllocError, Global};
+use uber_ring::Seal;
 
 /// The homes that are counted, sorted by key. The error is want of memory.
 pub fn counted_homes(alloc: Global, table: &PlainTable) -> Result<Vec<Entry>, AllocError>
@@ -64,7 +65,7 @@ pub fn are_counted(homes: &[Entry], spots: &[Spot]) -> bool
 }
 
 /// Whether the homes' counts come to this sum.
-pub fn sum_is(homes: &[Entry], counts: u64) -> bool
+fn sum_is(homes: &[Entry], counts: u64) -> bool
     ensures { result ≡ (counts == sum_by (λ entry. entry.home.count) homes.now) }
 {
     let mut left = counts;
@@ -75,4 +76,11 @@ pub fn sum_is(homes: &[Entry], counts: u64) -> bool
         left -= entry.home.count;
     }
     left == 0
+}
+
+/// Whether a seal's sums are right, for these homes and so many pages.
+pub fn sums_agree(seal: &Seal, homes: &[Entry], pages: u64) -> bool
+    ensures { result ≡ sums_agree seal.now homes.now pages }
+{
+    seal.homes == homes.len() as u64 && sum_is(homes, seal.counts) && seal.pages == pages
 }

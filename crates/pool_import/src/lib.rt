@@ -9,6 +9,7 @@
 
 mod changes;
 mod flat;
+mod judge;
 mod judge_counts;
 mod judge_places;
 mod marks;
