@@ -2,8 +2,7 @@
 use Rattle.std.proofs.Common.{◌≡◌, ℕ, Bool, true, false, ◌&&◌, ◌==◌, List, length, map, replicate, Option, Some, None, refl, sym, ap, ◌∙◌, eq-eqb}
 use Rattle.std.specs.Prelude.{sum_by, if◌then◌else◌, IfSome, IfNone, IfOk, Result, Ok, Err}
 use Rattle.std.specs.List.{list_all}
-use Rattle.std.proofs.lemmas.Bool.{false≢true, and_parts, eqb-true}
-use Rattle.ddt_entry.specs.declared.entry.Entry.{Entry}
+use Rattle.std.proofs.lemmas.Bool.{and_parts, eqb-true}
 use Rattle.disk_model.specs.Images.{Image}
 use Rattle.uber_ring.specs.declared.seal.Seal.{Seal}
 use Rattle.pool_model.specs.Table.{TableState, waiting_in}
@@ -67,10 +66,10 @@ module _ (seal : Seal) (flat : Flat) (grounds : Grounds seal flat) where
   told_of used passed =
       ap (λ b. if b then sectors_taken seal.sectors flat.named spots table else None)
       (and_both sums _
-          (and_both _ (seal.pages == length flat.named)
-              (and_both _ (seal.counts == sum_by (λ entry. entry.home.count) (counted_homes table)) (eq-eqb seal.homes _ passed.homes) (eq-eqb seal.counts _ passed.references))
-              (eq-eqb seal.pages _ passed.pages))
-          passed.are_counted)
+      (and_both _ (seal.pages == length flat.named)
+      (and_both _ (seal.counts == sum_by (λ entry. entry.home.count) (counted_homes table)) (eq-eqb seal.homes _ passed.homes) (eq-eqb seal.counts _ passed.references))
+      (eq-eqb seal.pages _ passed.pages))
+      passed.are_counted)
       ∙ ap (λ b. if b then then_taken else None) (and_both clear owned passed.are_clear passed.owned)
       ∙ passed.were_taken
 

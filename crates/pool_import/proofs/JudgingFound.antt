@@ -1,6 +1,6 @@
 -- The homes that a table finds: they rise by key, they are what its search finds, and what holds of all that it keeps holds of them.
 use Rattle.std.proofs.Common.{◌≡◌, Bool, true, false, cond, not, List, [], ◌∷◌, Option, Some, None, refl, sym, ap, subst, ◌∙◌}
-use Rattle.std.specs.Prelude.{filter, fold, ⊤, if◌then◌else◌}
+use Rattle.std.specs.Prelude.{fold, if◌then◌else◌}
 use Rattle.std.specs.List.{AllByRecursion, find}
 use Rattle.std.specs.Option.{option_map}
 use Rattle.std.specs.Ordering.{is_eq, is_lt, ordering_reverse}
@@ -15,7 +15,6 @@ use Rattle.ddt_entry.specs.declared.entry.Entry.{Entry}
 use Rattle.ddt_entry.specs.declared.entry.Change.{Change}
 use Rattle.ddt_entry.specs.declared.entry.Change.TheVariants as changes
 use Rattle.ddt_entry.proofs.KeyLaws.{key_cmp_total, exact_keys, is_eq-key_cmp, key_eq-true, key_eq-same, key_eq-symm}
-use Rattle.pool_model.specs.Pool.{Pairwise}
 use Rattle.pool_model.specs.Table.{TableState, home_in, entry_at, change_at, found_over, found, set_entry, drop_entry, set_found, entries_found, set_change}
 use Rattle.table_state.specs.Flat.{AreRising, last_changes}
 use Rattle.table_state.specs.Tables.{AreChangesRising, IsTable}
@@ -56,20 +55,22 @@ rising_set : (e : Entry) (es : List Entry) → AreRising es → AreRising (set_e
 rising_set e [] rising = (tt, tt)
 rising_set e (f ∷ fs) rising =
     let rest = rising_set e fs rising.1 in
-    elim (key_cmp e.key f.key) as (λ o. (key_cmp e.key f.key ≡ o) → AreRising (if is_lt o then e ∷ f ∷ fs else (if is_eq o then e ∷ fs else f ∷ set_entry e fs)))
-    [ Less ↦ λ is. ((ap is_lt is, every_weaker (IsBefore f) (IsBefore e) (λ x later. earlier_yet e.key f.key x.key (ap is_lt is) later) fs rising.0), rising)
-    | Equal ↦ λ is. (every_weaker (IsBefore f) (IsBefore e) (λ x later. ap (λ (k : Key). is_lt (key_cmp k x.key)) (exact_keys e.key f.key is) ∙ later) fs rising.0, rising.1)
-    | Greater ↦ λ is. (every_set (IsBefore f) e fs (ap is_lt (key_cmp_total.antisymm f.key e.key ∙ ap ordering_reverse is)) rising.0, rest) ] refl
+    elim (key_cmp e.key f.key) as (λ o. (key_cmp e.key f.key ≡ o) → AreRising (if is_lt o then e ∷ f ∷ fs else (if is_eq o then e ∷ fs else f ∷ set_entry e fs))) [
+      | Less ↦ λ is. ((ap is_lt is, every_weaker (IsBefore f) (IsBefore e) (λ x later. earlier_yet e.key f.key x.key (ap is_lt is) later) fs rising.0), rising)
+      | Equal ↦ λ is. (every_weaker (IsBefore f) (IsBefore e) (λ x later. ap (λ (k : Key). is_lt (key_cmp k x.key)) (exact_keys e.key f.key is) ∙ later) fs rising.0, rising.1)
+      | Greater ↦ λ is. (every_set (IsBefore f) e fs (ap is_lt (key_cmp_total.antisymm f.key e.key ∙ ap ordering_reverse is)) rising.0, rest)
+    ] refl
 
 -- what is found after an entry was set
 entry_at-set : (key : Key) (e : Entry) (es : List Entry) → entry_at key (set_entry e es) ≡ (if key_eq e.key key then Some e.home else entry_at key es)
 entry_at-set key e [] = elim (key_eq e.key key) as (λ b. option_map (λ (x : Entry). x.home) (cond b (Some e) None) ≡ (if b then Some e.home else None)) [ true ↦ refl | false ↦ refl ]
 entry_at-set key e (f ∷ fs) =
     let rest = entry_at-set key e fs in
-    elim (key_cmp e.key f.key) as (λ o. (key_cmp e.key f.key ≡ o) → entry_at key (if is_lt o then e ∷ f ∷ fs else (if is_eq o then e ∷ fs else f ∷ set_entry e fs)) ≡ (if key_eq e.key key then Some e.home else entry_at key (f ∷ fs)))
-    [ Less ↦ λ is. first (key_eq e.key key)
-    | Equal ↦ λ is. same (key_eq e.key key) (key_eq f.key key) (ap (λ (k : Key). key_eq k key) (exact_keys e.key f.key is))
-    | Greater ↦ λ is. later (key_eq e.key key) (key_eq f.key key) refl refl rest (sym (is_eq-key_cmp e.key f.key) ∙ ap is_eq is) ] refl
+    elim (key_cmp e.key f.key) as (λ o. (key_cmp e.key f.key ≡ o) → entry_at key (if is_lt o then e ∷ f ∷ fs else (if is_eq o then e ∷ fs else f ∷ set_entry e fs)) ≡ (if key_eq e.key key then Some e.home else entry_at key (f ∷ fs))) [
+      | Less ↦ λ is. first (key_eq e.key key)
+      | Equal ↦ λ is. same (key_eq e.key key) (key_eq f.key key) (ap (λ (k : Key). key_eq k key) (exact_keys e.key f.key is))
+      | Greater ↦ λ is. later (key_eq e.key key) (key_eq f.key key) refl refl rest (sym (is_eq-key_cmp e.key f.key) ∙ ap is_eq is)
+    ] refl
   where
     first : (b : Bool) → option_map (λ (x : Entry). x.home) (cond b (Some e) (find (λ (x : Entry). key_eq x.key key) (f ∷ fs))) ≡ (if b then Some e.home else entry_at key (f ∷ fs))
     first true = refl
@@ -100,9 +101,10 @@ entry_at-drop key dropped [] = nothing (key_eq dropped key)
     nothing false = refl
 entry_at-drop key dropped (f ∷ fs) =
     let rest = entry_at-drop key dropped fs in
-    elim (key_eq f.key dropped) as (λ b. (key_eq f.key dropped ≡ b) → entry_at key (cond (not b) (f ∷ drop_entry dropped fs) (drop_entry dropped fs)) ≡ (if key_eq dropped key then None else entry_at key (f ∷ fs)))
-    [ true ↦ λ of. gone (key_eq dropped key) (key_eq f.key key) (sym (ap (λ (k : Key). key_eq k key) (key_eq-true f.key dropped of))) rest
-    | false ↦ λ of. stays (key_eq dropped key) (key_eq f.key key) refl refl rest of ] refl
+    elim (key_eq f.key dropped) as (λ b. (key_eq f.key dropped ≡ b) → entry_at key (cond (not b) (f ∷ drop_entry dropped fs) (drop_entry dropped fs)) ≡ (if key_eq dropped key then None else entry_at key (f ∷ fs))) [
+      | true ↦ λ of. gone (key_eq dropped key) (key_eq f.key key) (sym (ap (λ (k : Key). key_eq k key) (key_eq-true f.key dropped of))) rest
+      | false ↦ λ of. stays (key_eq dropped key) (key_eq f.key key) refl refl rest of
+    ] refl
   where
     gone : (c d : Bool) → c ≡ d → entry_at key (drop_entry dropped fs) ≡ (if c then None else entry_at key fs)
         → entry_at key (drop_entry dropped fs) ≡ (if c then None else option_map (λ (x : Entry). x.home) (cond d (Some f) (find (λ (x : Entry). key_eq x.key key) fs)))
@@ -138,8 +140,8 @@ entry_at-log key (change ∷ log) es rising =
     others is =
         no_change key log
         (every_weaker (λ (x : Change). is_lt (key_cmp (key_in change) (key_in x)) ≡ true) (λ (x : Change). key_eq (key_in x) key ≡ false)
-            (λ x later. key_eq-symm (key_in x) key ∙ ap (λ (k : Key). key_eq k (key_in x)) (sym (key_eq-true (key_in change) key is)) ∙ earlier_apart (key_in change) (key_in x) later)
-            log rising.0)
+        (λ x later. key_eq-symm (key_in x) key ∙ ap (λ (k : Key). key_eq k (key_in x)) (sym (key_eq-true (key_in change) key is)) ∙ earlier_apart (key_in change) (key_in x) later)
+        log rising.0)
 
     by_test : (b : Bool) → key_eq (key_in change) key ≡ b
         → found_over (if b then home_in change else entry_at key es) (change_at key log) ≡ found_over (entry_at key es) (cond b (Some change) (change_at key log))
@@ -150,7 +152,7 @@ entry_at-log key (change ∷ log) es rising =
 pub found-is : (table : TableState) (key : Key) → IsTable table → found table key ≡ entry_at key (entries_found table)
 found-is table key is =
     sym (entry_at-log key table.active (fold set_found table.zap table.flush) is.active_rising
-        ∙ ap (λ o. found_over o (change_at key table.active)) (entry_at-log key table.flush table.zap is.flush_rising))
+    ∙ ap (λ o. found_over o (change_at key table.active)) (entry_at-log key table.flush table.zap is.flush_rising))
 
 -- ---- The whole list
 
@@ -165,11 +167,12 @@ rising_found table is = rising_log table.active (fold set_found table.zap table.
 -- in a rising list each entry is what is found of its key
 pub each_found : (es : List Entry) → AreRising es → AllByRecursion (λ entry. entry_at entry.key es ≡ Some entry.home) es
 each_found [] rising = tt
-each_found (f ∷ fs) rising =
-    (ap (λ b. option_map (λ (x : Entry). x.home) (cond b (Some f) (find (λ (x : Entry). key_eq x.key f.key) fs))) (key_eq-same f.key),
-     every_both (IsBefore f) (λ (e : Entry). entry_at e.key fs ≡ Some e.home) (λ (e : Entry). entry_at e.key (f ∷ fs) ≡ Some e.home)
-        (λ e later there. ap (λ b. option_map (λ (x : Entry). x.home) (cond b (Some f) (find (λ (x : Entry). key_eq x.key e.key) fs))) (earlier_apart f.key e.key later) ∙ there)
-        fs rising.0 (each_found fs rising.1))
+each_found (f ∷ fs) rising = (
+  ap (λ b. option_map (λ (x : Entry). x.home) (cond b (Some f) (find (λ (x : Entry). key_eq x.key f.key) fs))) (key_eq-same f.key),
+  every_both (IsBefore f) (λ (e : Entry). entry_at e.key fs ≡ Some e.home) (λ (e : Entry). entry_at e.key (f ∷ fs) ≡ Some e.home)
+      (λ e later there. ap (λ b. option_map (λ (x : Entry). x.home) (cond b (Some f) (find (λ (x : Entry). key_eq x.key e.key) fs))) (earlier_apart f.key e.key later) ∙ there)
+      fs rising.0 (each_found fs rising.1),
+)
 
 -- what holds of each entry of a key holds of what is found of it
 pub of_found : (Q : Home → Type 0) (key : Key) (home : Home) (es : List Entry) → AllByRecursion (λ entry. key_eq entry.key key ≡ true → Q entry.home) es → entry_at key es ≡ Some home → Q home

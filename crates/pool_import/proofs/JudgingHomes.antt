@@ -1,5 +1,5 @@
 -- The counts of the homes tell whether each home counts exactly its pointers.
-use Rattle.std.proofs.Common.{◌≡◌, ℕ, ◌+◌, ◌<◌, Bool, true, false, cond, ◌&&◌, ◌==◌, List, [], ◌∷◌, length, map, Option, Some, None, refl, sym, ap, subst, ◌∙◌, arith, eq-eqb}
+use Rattle.std.proofs.Common.{◌≡◌, ℕ, ◌<◌, Bool, true, false, cond, ◌&&◌, ◌==◌, List, [], ◌∷◌, length, map, Option, Some, None, refl, sym, ap, ◌∙◌, arith, eq-eqb}
 use Rattle.std.specs.Prelude.{filter, count_by, nat_lt, if◌then◌else◌}
 use Rattle.std.specs.List.{AllByRecursion, list_all}
 use Rattle.std.proofs.lemmas.Bool.{false≢true, and_parts, eqb-true, ltb-true}
@@ -12,14 +12,14 @@ use Rattle.ddt_entry.specs.declared.entry.SlotKind.{SlotKind}
 use Rattle.ddt_entry.specs.declared.entry.SlotKind.TheVariants.{Plain, Flagged}
 use Rattle.ddt_entry.proofs.KeyLaws.{key_eq-true}
 use Rattle.disk_model.specs.Images.{Image}
-use Rattle.pool_model.specs.Pool.{Pool, Pointer, Mark, plain, tracked, loose, is_tracked, since_of, tracks, tracked_at}
+use Rattle.pool_model.specs.Pool.{Pool, Pointer, Mark, tracked, loose, is_tracked, since_of, tracks, tracked_at}
 use Rattle.pool_model.specs.Table.{TableState, entry_at, entries_found, found, counted, home_of_pointers}
 use Rattle.table_state.specs.Flat.{pointer_of, mark_by, mark_of, counted_homes}
 use Rattle.table_state.specs.Tables.{IsTable}
 use Rattle.table_state.specs.declared.slot_record.SlotRecord.{SlotRecord}
 use Rattle.pool_import.specs.Marks.{spot_in, counts_for, is_counted}
 use Rattle.pool_import.specs.declared.marks.Spot.{Spot}
-use Rattle.pool_import.proofs.JudgingLists.{every_weaker, every_both, every_of, every_map, every_filter, every_passed, every_unfilter, none_passes, list_all-each, each-list_all}
+use Rattle.pool_import.proofs.JudgingLists.{every_weaker, every_both, every_filter, every_passed, every_unfilter, none_passes, list_all-each, each-list_all}
 use Rattle.pool_import.proofs.JudgingFound.{found-is, rising_found, each_found, of_found}
 
 -- ---- Pointers as the table knows them
@@ -153,12 +153,12 @@ module _ (pool : Pool) (table : TableState) (is : IsTable table) (known : AllByR
   count_right passed key home found_is some =
       sym (count_at-is key pool.pointers)
       ∙ eqb-true (count_by (counts_for key) spots) home.count
-        (of_found (λ h. nat_lt 0 h.count ≡ true → (count_by (counts_for key) spots == h.count) ≡ true) key home (entries_found table)
-            (every_weaker (λ (e : Entry). nat_lt 0 e.home.count ≡ true → is_counted spots e ≡ true) (λ (e : Entry). key_eq e.key key ≡ true → nat_lt 0 e.home.count ≡ true → (count_by (counts_for key) spots == e.home.count) ≡ true)
-                (λ e right at counts. ap (λ (k : Key). count_by (counts_for k) spots == e.home.count) (sym (key_eq-true e.key key at)) ∙ right counts)
-                (entries_found table)
-                (every_unfilter (λ (e : Entry). is_counted spots e ≡ true) (λ (e : Entry). nat_lt 0 e.home.count) (entries_found table) (list_all-each (is_counted spots) (counted_homes table) passed)))
-            (sym (found-is table key is) ∙ found_is) some)
+      (of_found (λ h. nat_lt 0 h.count ≡ true → (count_by (counts_for key) spots == h.count) ≡ true) key home (entries_found table)
+      (every_weaker (λ (e : Entry). nat_lt 0 e.home.count ≡ true → is_counted spots e ≡ true) (λ (e : Entry). key_eq e.key key ≡ true → nat_lt 0 e.home.count ≡ true → (count_by (counts_for key) spots == e.home.count) ≡ true)
+      (λ e right at counts. ap (λ (k : Key). count_by (counts_for k) spots == e.home.count) (sym (key_eq-true e.key key at)) ∙ right counts)
+      (entries_found table)
+      (every_unfilter (λ (e : Entry). is_counted spots e ≡ true) (λ (e : Entry). nat_lt 0 e.home.count) (entries_found table) (list_all-each (is_counted spots) (counted_homes table) passed)))
+      (sym (found-is table key is) ∙ found_is) some)
 
   -- right counts match
   pub homes_if_counted : list_all (is_counted spots) (counted_homes table) ≡ true → (key : Key) → counted (found table key) ≡ home_of_pointers (tracked_at pool key)
@@ -182,9 +182,9 @@ module _ (pool : Pool) (table : TableState) (is : IsTable table) (known : AllByR
   counted_if_homes homes =
       each-list_all (is_counted spots) (counted_homes table)
       (every_both (λ (e : Entry). nat_lt 0 e.home.count ≡ true) (λ (e : Entry). entry_at e.key (entries_found table) ≡ Some e.home) (λ (e : Entry). is_counted spots e ≡ true) right
-          (counted_homes table)
-          (every_passed (λ (e : Entry). nat_lt 0 e.home.count) (entries_found table))
-          (every_filter (λ (e : Entry). entry_at e.key (entries_found table) ≡ Some e.home) (λ (e : Entry). nat_lt 0 e.home.count) (entries_found table) (each_found (entries_found table) (rising_found table is))))
+      (counted_homes table)
+      (every_passed (λ (e : Entry). nat_lt 0 e.home.count) (entries_found table))
+      (every_filter (λ (e : Entry). entry_at e.key (entries_found table) ≡ Some e.home) (λ (e : Entry). nat_lt 0 e.home.count) (entries_found table) (each_found (entries_found table) (rising_found table is))))
     where
       as_many : (home : Home) (ps : List Pointer) → Some home ≡ home_of_pointers ps → length ps ≡ home.count
       as_many home [] same = absurd (cc same)
@@ -194,5 +194,5 @@ module _ (pool : Pool) (table : TableState) (is : IsTable table) (known : AllByR
       right e counts there =
           eq-eqb (count_by (counts_for e.key) spots) e.home.count
           (count_at-is e.key pool.pointers
-           ∙ as_many e.home (tracked_at pool e.key)
-             (sym (ap counted (found-is table e.key is ∙ there) ∙ ap (λ b. if b then Some e.home else None) counts) ∙ homes e.key))
+          ∙ as_many e.home (tracked_at pool e.key)
+          (sym (ap counted (found-is table e.key is ∙ there) ∙ ap (λ b. if b then Some e.home else None) counts) ∙ homes e.key))

@@ -1,5 +1,5 @@
 -- The owners of sectors tell whether each two slots lie apart, unless they share a home.
-use Rattle.std.proofs.Common.{◌≡◌, ◌≢◌, ℕ, zero, suc, ◌+◌, ◌-◌, ◌<◌, Bool, true, false, cond, not, ◌&&◌, ◌||◌, ◌==◌, ◌⊎◌, inl, inr, List, [], ◌∷◌, ◌++◌, length, get_or, set, Option, Some, None, refl, sym, ap, subst, ⊎_elim, ◌∙◌, arith, append_assoc, eq-eqb}
+use Rattle.std.proofs.Common.{◌≡◌, ℕ, zero, suc, ◌+◌, ◌-◌, ◌<◌, Bool, true, false, not, ◌&&◌, ◌||◌, ◌==◌, ◌⊎◌, inl, inr, List, [], ◌∷◌, ◌++◌, length, get_or, set, Some, refl, sym, ap, subst, ⊎_elim, ◌∙◌, arith, append_assoc, eq-eqb}
 use Rattle.std.specs.Prelude.{slice_get, slice_index, slice_set, replicate, if◌then◌else◌}
 use Rattle.std.specs.List.{AllByRecursion}
 use Rattle.std.proofs.lemmas.Bool.{false≢true}
@@ -11,7 +11,7 @@ use Rattle.ddt_entry.proofs.KeyLaws.{key_eq-true, key_eq-same}
 use Rattle.pool_model.specs.Pool.{Pairwise}
 use Rattle.pool_import.specs.Marks.{are_shared, go_apart, shares_with, are_owned}
 use Rattle.pool_import.specs.declared.marks.Spot.{Spot}
-use Rattle.pool_import.proofs.JudgingLists.{every_at, every_weaker, every_both, every_push, pairs_before, pairs_push}
+use Rattle.pool_import.proofs.JudgingLists.{every_at, every_weaker, every_push, pairs_before, pairs_push}
 
 -- ---- Sharing
 
@@ -155,18 +155,18 @@ step all done at owners x xs split here within inv = by_owner (get_or owners x.p
     renewed each s lt =
         ⊎_elim
         (λ same. subst (Owner (done ++ x ∷ []) s)
-            (ap (λ n. n + 1) (sym here) ∙ sym (ap (λ n. get_or (set owners x.place (at + 1)) n 0) (sym same.1) ∙ get_or-set_same owners x.place (at + 1) 0 within))
-            (subst (λ n. Owner (done ++ x ∷ []) n (length done + 1)) same.1 (owner_new done x.place x lies each)))
+        (ap (λ n. n + 1) (sym here) ∙ sym (ap (λ n. get_or (set owners x.place (at + 1)) n 0) (sym same.1) ∙ get_or-set_same owners x.place (at + 1) 0 within))
+        (subst (λ n. Owner (done ++ x ∷ []) n (length done + 1)) same.1 (owner_new done x.place x lies each)))
         (λ other. subst (Owner (done ++ x ∷ []) s)
-            (sym (get_or-set_other owners x.place s (at + 1) 0 (λ e. other.1 (sym e))))
-            (owner_past done s (get_or owners s 0) x other.0 (inv.each s (omega (arith, length-set owners x.place (at + 1))))))
+        (sym (get_or-set_other owners x.place s (at + 1) 0 (λ e. other.1 (sym e))))
+        (owner_past done s (get_or owners s 0) x other.0 (inv.each s (omega (arith, length-set owners x.place (at + 1))))))
         (eqb_tells x.place s)
 
     kept : (i : ℕ) (o : Spot) → get_or owners x.place 0 ≡ i + 1 → slice_get done i ≡ Some o → Lies x.place o → AllByRecursion (IsOf x.place o) done → are_shared o x ≡ true → (s : ℕ) → s < length owners → Owner (done ++ x ∷ []) s (get_or owners s 0)
     kept i o is there on each shared s lt =
         ⊎_elim
         (λ same. subst (λ n. Owner (done ++ x ∷ []) n (get_or owners n 0)) same.1
-            (subst (Owner (done ++ x ∷ []) x.place) (sym is) (owner_shared done x.place i o x there on each shared)))
+        (subst (Owner (done ++ x ∷ []) x.place) (sym is) (owner_shared done x.place i o x there on each shared)))
         (λ other. owner_past done s (get_or owners s 0) x other.0 (inv.each s lt))
         (eqb_tells x.place s)
 
@@ -189,8 +189,8 @@ step all done at owners x xs split here within inv = by_owner (get_or owners x.p
         let index : slice_index owners x.place - 1 ≡ i = omega (arith, is) in
         by_shared i o is there on each
         (ap (λ b. if b then fresh else further (slice_index owners x.place)) (isnt_zero (slice_index owners x.place) i is)
-         ∙ ap (λ n. shares_with (slice_get all n) x && are_owned all (at + 1) owners xs) index
-         ∙ ap (λ o. shares_with o x && are_owned all (at + 1) owners xs) found)
+        ∙ ap (λ n. shares_with (slice_get all n) x && are_owned all (at + 1) owners xs) index
+        ∙ ap (λ o. shares_with o x && are_owned all (at + 1) owners xs) found)
         (are_shared o x) refl
 
 -- ---- The whole

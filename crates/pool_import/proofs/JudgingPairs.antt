@@ -1,8 +1,8 @@
 -- Each two pointers of an image's pool go together exactly where they lie apart or share a home.
-use Rattle.std.proofs.Common.{◌≡◌, ◌≢◌, ℕ, ◌+◌, ◌/◌, ◌<◌, ◌≤◌, Bool, true, false, cond, not, ◌&&◌, ◌||◌, ◌==◌, ◌⊎◌, inl, inr, List, [], ◌∷◌, length, map, Option, Some, None, refl, sym, ap, subst, ⊎_elim, ◌∙◌, arith, eq-eqb}
+use Rattle.std.proofs.Common.{◌≡◌, ◌≢◌, ℕ, ◌<◌, ◌≤◌, Bool, true, false, not, ◌&&◌, ◌||◌, ◌==◌, inl, inr, List, [], ◌∷◌, map, Some, refl, sym, ap, ⊎_elim, ◌∙◌, arith, eq-eqb}
 use Rattle.std.specs.Prelude.{nat_lt, nat_le}
 use Rattle.std.specs.List.{AllByRecursion}
-use Rattle.std.proofs.lemmas.Bool.{false≢true, and_parts, eqb-true, ltb-true, leb-true}
+use Rattle.std.proofs.lemmas.Bool.{false≢true, and_parts, ltb-true, leb-true}
 use Rattle.std.proofs.lemmas.Bool.Decides.{nat_tests, eqb_tells}
 use Rattle.ddt_entry.specs.Keys.{key_eq}
 use Rattle.ddt_entry.specs.Records.{is_key_length}
@@ -16,8 +16,8 @@ use Rattle.table_state.specs.Flat.{stands_before, pointer_of}
 use Rattle.table_state.specs.SlotRecords.{is_slot}
 use Rattle.table_state.specs.declared.slot_record.SlotRecord.{SlotRecord}
 use Rattle.pool_import.specs.Marks.{spot_in, go_apart}
-use Rattle.pool_import.proofs.JudgingLists.{every_weaker, every_map, pairs_map, pairs_unmap, pairs_weaker, pairs_both}
-use Rattle.pool_import.proofs.JudgingHomes.{HasHome, IsKnown, known_of}
+use Rattle.pool_import.proofs.JudgingLists.{pairs_map, pairs_unmap, pairs_weaker, pairs_both}
+use Rattle.pool_import.proofs.JudgingHomes.{IsKnown}
 
 -- ---- Runs
 
@@ -133,7 +133,7 @@ together_if_apart table sectors group ps sound slots apart_all =
     pairs_weaker (IsSound table sectors group) (λ (p q : Pointer). (is_at p.lane p.slot q ≡ false) × (go_apart (spot_in p) (spot_in q) ≡ true)) GoTogether
     (λ p q one other both. together table sectors group p q one other both.0 both.1) ps sound
     (pairs_both (λ (p q : Pointer). is_at p.lane p.slot q ≡ false) (λ (p q : Pointer). go_apart (spot_in p) (spot_in q) ≡ true) (λ (p q : Pointer). (is_at p.lane p.slot q ≡ false) × (go_apart (spot_in p) (spot_in q) ≡ true))
-        (λ p q one other. (one, other)) ps slots (pairs_unmap (λ a b. go_apart a b ≡ true) spot_in ps apart_all))
+    (λ p q one other. (one, other)) ps slots (pairs_unmap (λ a b. go_apart a b ≡ true) spot_in ps apart_all))
 
 pub apart_if_together : (table : TableState) (sectors group : ℕ) (ps : List Pointer) → AllByRecursion (IsSound table sectors group) ps → Pairwise GoTogether ps → Pairwise (λ a b. go_apart a b ≡ true) (map spot_in ps)
 apart_if_together table sectors group ps sound pairs =

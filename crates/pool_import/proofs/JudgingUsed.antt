@@ -1,8 +1,8 @@
 -- Which sectors are used once places are marked, and when each place is free until it is taken.
-use Rattle.std.proofs.Common.{◌≡◌, ℕ, ◌+◌, ◌<◌, Bool, true, false, cond, not, ◌&&◌, ◌||◌, ◌==◌, ◌⊎◌, inl, inr, List, [], ◌∷◌, length, get_or, set, map, Option, Some, None, refl, sym, ap, subst, ⊎_elim, ◌∙◌, arith, eq-eqb}
-use Rattle.std.specs.Prelude.{slice_index_or, slice_set, if◌then◌else◌}
+use Rattle.std.proofs.Common.{◌≡◌, ℕ, ◌<◌, Bool, true, false, ◌||◌, ◌==◌, List, [], ◌∷◌, length, get_or, set, Some, None, refl, sym, ap, ⊎_elim, ◌∙◌, arith}
+use Rattle.std.specs.Prelude.{slice_set, if◌then◌else◌}
 use Rattle.std.specs.List.{AllByRecursion, list_any}
-use Rattle.std.proofs.lemmas.Bool.{false≢true, eqb-true}
+use Rattle.std.proofs.lemmas.Bool.{false≢true}
 use Rattle.std.proofs.lemmas.Bool.Decides.{eqb_tells}
 use Rattle.std.proofs.lemmas.List.{length-set, get_or-set_same, get_or-set_other}
 use Rattle.pool_model.specs.Pool.{Pairwise}
@@ -32,7 +32,7 @@ set_used : (used : List Bool) (place s : ℕ) → s < length used → get_or (se
 set_used used place s within =
     ⊎_elim
     (λ same. let here : place < length used = omega (arith, same.1) in
-        ap (λ n. get_or (set used place true) n false) (sym same.1) ∙ get_or-set_same used place true false here ∙ sym (ap (λ b. get_or used s false || b) same.0 ∙ or_true (get_or used s false)))
+    ap (λ n. get_or (set used place true) n false) (sym same.1) ∙ get_or-set_same used place true false here ∙ sym (ap (λ b. get_or used s false || b) same.0 ∙ or_true (get_or used s false)))
     (λ other. get_or-set_other used place s true false (λ e. other.1 (sym e)) ∙ sym (ap (λ b. get_or used s false || b) other.0 ∙ or_false (get_or used s false)))
     (eqb_tells place s)
 
@@ -77,9 +77,9 @@ taken_if_free [] used within free differ = refl
 taken_if_free (place ∷ places) used within free differ =
     ap (λ b. if b then None else taken (slice_set used place true) places) free.0
     ∙ taken_if_free places (set used place true) (in_set used place places within.1)
-      (every_both (λ q. IsIn used q × IsFree used q) (Differ place) (IsFree (set used place true)) (λ q is other. still_free used place q is.0 is.1 other) places
-          (every_both (IsIn used) (IsFree used) (λ q. IsIn used q × IsFree used q) (λ q one other. (one, other)) places within.1 free.1) differ.0)
-      differ.1
+    (every_both (λ q. IsIn used q × IsFree used q) (Differ place) (IsFree (set used place true)) (λ q is other. still_free used place q is.0 is.1 other) places
+    (every_both (IsIn used) (IsFree used) (λ q. IsIn used q × IsFree used q) (λ q one other. (one, other)) places within.1 free.1) differ.0)
+    differ.1
 
 -- what was taken tells
 pub record WasTaken (used : List Bool) (places : List ℕ) (after : List Bool) : Type 0 where

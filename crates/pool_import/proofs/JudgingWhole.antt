@@ -1,20 +1,18 @@
 -- What the tests of the whole of an image come to.
-use Rattle.std.proofs.Common.{◌≡◌, ℕ, ◌+◌, ◌<◌, ◌≤◌, Bool, true, false, cond, not, ◌&&◌, ◌||◌, ◌==◌, List, [], ◌∷◌, length, get_or, map, replicate, Option, Some, None, refl, sym, ap, subst, ◌∙◌, arith, eq-eqb}
-use Rattle.std.specs.Prelude.{nat_le, nat_lt, filter, sum_by, slice_index_or, if◌then◌else◌}
-use Rattle.std.specs.List.{AllByRecursion, list_any, list_all, range_with_len}
-use Rattle.std.proofs.lemmas.Bool.{false≢true, eqb-true}
+use Rattle.std.proofs.Common.{◌≡◌, ℕ, ◌<◌, ◌≤◌, Bool, true, false, not, ◌||◌, ◌==◌, List, [], ◌∷◌, length, get_or, map, replicate, Some, refl, sym, ap, subst, ◌∙◌, arith, eq-eqb}
+use Rattle.std.specs.Prelude.{nat_lt, sum_by}
+use Rattle.std.specs.List.{AllByRecursion, list_any, list_all}
+use Rattle.std.proofs.lemmas.Bool.{false≢true}
 use Rattle.std.proofs.lemmas.Bool.Decides.{nat_tests}
 use Rattle.std.proofs.lemmas.List.FromFn.{fill_by_all, length-map-range_with_len, get_or-map-range_with_len}
-use Rattle.ddt_entry.specs.declared.key.Key.{Key}
 use Rattle.ddt_entry.specs.declared.entry.Entry.{Entry}
-use Rattle.ddt_entry.specs.declared.entry.Change.{Change}
 use Rattle.ddt_entry.specs.declared.entry.Change.TheVariants as changes
 use Rattle.disk_model.specs.Images.{Image}
 use Rattle.uber_ring.specs.declared.seal.Seal.{Seal}
-use Rattle.pool_model.specs.Pool.{Pool, Pointer, Pairwise, IsApart, run_length, GoTogether, LiesWithin, is_at}
-use Rattle.pool_model.specs.Table.{TableState, Matches, IsApartFrom, waiting_in, entries_found}
+use Rattle.pool_model.specs.Pool.{Pool, Pointer, Pairwise, IsApart, run_length, LiesWithin, is_at}
+use Rattle.pool_model.specs.Table.{TableState, IsApartFrom, waiting_in, entries_found}
 use Rattle.pool_model.specs.Space.{is_used, lies_in, used_sectors}
-use Rattle.table_state.specs.Flat.{Flat, HoldTogether, IsWithin, IsChangeWithin, IsClear, table_in, pool_in, pointer_of, counted_homes, last_changes, is_past, is_missing}
+use Rattle.table_state.specs.Flat.{Flat, HoldTogether, IsWithin, IsChangeWithin, IsClear, table_in, pool_in, pointer_of, counted_homes, last_changes}
 use Rattle.table_state.specs.SlotRecords.{is_slot}
 use Rattle.table_state.specs.Tables.{IsTable, IsTableWithin}
 use Rattle.table_state.specs.declared.slot_record.SlotRecord.{SlotRecord}
@@ -22,10 +20,10 @@ use Rattle.pool_import.specs.Lengths.{IsEntryLength, HasLengths}
 use Rattle.pool_import.specs.Marks.{spot_of, spot_in, go_apart, is_counted, are_owned, marked, taken, ring_used, places_of, places_in, is_clear}
 use Rattle.pool_import.specs.Whole.{IsWhole}
 use Rattle.pool_import.specs.declared.marks.Spot.{Spot}
-use Rattle.pool_import.proofs.JudgingLists.{every_weaker, every_both, every_map, every_unmap, every_filter, every_of, pairs_map, pairs_unmap, pairs_weaker, list_all-each, each-list_all}
+use Rattle.pool_import.proofs.JudgingLists.{every_weaker, every_both, every_map, every_unmap, every_filter, pairs_map, pairs_unmap, pairs_weaker, list_all-each, each-list_all}
 use Rattle.pool_import.proofs.JudgingFound.{every_found, every_class, every_last}
 use Rattle.pool_import.proofs.JudgingHomes.{IsKnown, known_of, homes_if_counted, counted_if_homes}
-use Rattle.pool_import.proofs.JudgingPairs.{one_sector, apart_if, differ_if, IsRanged, ranged_of, within_of, IsSound, slots_differ, together_if_apart, apart_if_together}
+use Rattle.pool_import.proofs.JudgingPairs.{one_sector, apart_if, differ_if, ranged_of, within_of, IsSound, slots_differ, together_if_apart, apart_if_together}
 use Rattle.pool_import.proofs.JudgingUsed.{length-marked, marked-at, taken_if_free, WasTaken, free_if_taken}
 use Rattle.pool_import.proofs.JudgingOwners.{apart_if_owned, owned_if_apart}
 
@@ -100,9 +98,9 @@ found_roomed seal flat grounds =
     (entries_found (table_in seal flat))
     (every_found (IsWithin seal.sectors seal.group) (IsChangeWithin seal.sectors seal.group) (λ e is. is) (table_in seal flat) grounds.within.zap grounds.within.flush grounds.within.active)
     (every_found HasLength IsEntryLength (λ e is. is) (table_in seal flat)
-        (every_class HasLength flat.duplicate flat.unique grounds.lengths.duplicate grounds.lengths.unique)
-        (every_filter IsEntryLength _ (last_changes flat.flushing) (every_last IsEntryLength flat.flushing grounds.lengths.flushing))
-        (every_last IsEntryLength flat.active grounds.lengths.active))
+    (every_class HasLength flat.duplicate flat.unique grounds.lengths.duplicate grounds.lengths.unique)
+    (every_filter IsEntryLength _ (last_changes flat.flushing) (every_last IsEntryLength flat.flushing grounds.lengths.flushing))
+    (every_last IsEntryLength flat.active grounds.lengths.active))
 
 -- ---- The tests, and what they say of any image
 
@@ -179,7 +177,7 @@ module _ (seal : Seal) (flat : Flat) (grounds : Grounds seal flat) where
   waits_differ apart =
       pairs_map (λ (a b : ℕ). (a == b) ≡ false) (λ (e : Entry). e.home.place) waiting
       (pairs_weaker (IsRoomed seal.sectors) (λ (a b : Entry). IsApart a.home.place (run_length a.key) b.home.place (run_length b.key)) (λ (a b : Entry). (a.home.place == b.home.place) ≡ false)
-          (λ a b one other is. differ_if a.home.place b.home.place (run_length a.key) (run_length b.key) one.run other.run is) waiting waiting_roomed apart)
+      (λ a b one other is. differ_if a.home.place b.home.place (run_length a.key) (run_length b.key) one.run other.run is) waiting waiting_roomed apart)
 
   module _ (image : Image) where
     abbrev pool : Pool
@@ -192,7 +190,7 @@ module _ (seal : Seal) (flat : Flat) (grounds : Grounds seal flat) where
     sound =
         every_map (IsSound table seal.sectors seal.group) (pointer_of image table) flat.slots
         (every_weaker (λ slot. is_slot seal.sectors seal.group slot ≡ true) (λ slot. IsSound table seal.sectors seal.group (pointer_of image table slot))
-            (λ slot is. record { ranged = ranged_of seal.sectors seal.group image table slot is; known = known_of image table slot }) flat.slots grounds.slots)
+        (λ slot is. record { ranged = ranged_of seal.sectors seal.group image table slot is; known = known_of image table slot }) flat.slots grounds.slots)
 
     known : AllByRecursion (IsKnown table) pool.pointers
     known = every_weaker (IsSound table seal.sectors seal.group) (IsKnown table) (λ p is. is.known) pool.pointers sound
@@ -201,7 +199,7 @@ module _ (seal : Seal) (flat : Flat) (grounds : Grounds seal flat) where
     spots_within =
         subst (AllByRecursion (λ (y : Spot). y.place < seal.sectors)) same_spots
         (every_map (λ (y : Spot). y.place < seal.sectors) spot_in pool.pointers
-            (every_weaker (IsSound table seal.sectors seal.group) (λ (p : Pointer). p.place < seal.sectors) (λ p is. is.ranged.on_disk) pool.pointers sound))
+        (every_weaker (IsSound table seal.sectors seal.group) (λ (p : Pointer). p.place < seal.sectors) (λ p is. is.ranged.on_disk) pool.pointers sound))
 
     slots_apart : Pairwise (λ (p q : Pointer). is_at p.lane p.slot q ≡ false) pool.pointers
     slots_apart = slots_differ image table flat.slots grounds.together.slots_rising
@@ -225,9 +223,9 @@ module _ (seal : Seal) (flat : Flat) (grounds : Grounds seal flat) where
     clear_then each =
         each-list_all (is_clear on_pages) spots
         (of_spots (λ spot. is_clear on_pages spot ≡ true)
-            (every_both (IsSound table seal.sectors seal.group) (λ (p : Pointer). IsClear flat.named p.place) (λ (p : Pointer). is_clear on_pages (spot_in p) ≡ true)
-                (λ p is clear. ap not (pages-at p.place is.ranged.on_disk ∙ ap (λ b. b || list_any (λ page. page == p.place) flat.named) (not_ring p.place is.ranged.start) ∙ clear))
-                pool.pointers sound each))
+        (every_both (IsSound table seal.sectors seal.group) (λ (p : Pointer). IsClear flat.named p.place) (λ (p : Pointer). is_clear on_pages (spot_in p) ≡ true)
+        (λ p is clear. ap not (pages-at p.place is.ranged.on_disk ∙ ap (λ b. b || list_any (λ page. page == p.place) flat.named) (not_ring p.place is.ranged.start) ∙ clear))
+        pool.pointers sound each))
 
     -- ---- Homes that wait
 
@@ -245,7 +243,7 @@ module _ (seal : Seal) (flat : Flat) (grounds : Grounds seal flat) where
               (λ p is differ. apart_if e.home.place p.place (run_length e.key) (run_length p.key) roomed.run is.ranged.run (λ same. false≢true (sym differ ∙ eq-eqb p.place e.home.place (sym same))))
               pool.pointers sound
               (of_pointers (λ spot. (spot.place == e.home.place) ≡ false)
-                  (every_unmap (λ place. (place == e.home.place) ≡ false) (λ (spot : Spot). spot.place) spots (any_none (λ place. place == e.home.place) (places_of spots) parts.1)));
+              (every_unmap (λ place. (place == e.home.place) ≡ false) (λ (spot : Spot). spot.place) spots (any_none (λ place. place == e.home.place) (places_of spots) parts.1)));
         }
 
     alone_then : (e : Entry) → IsRoomed seal.sectors e → IsAlone e → get_or with_spots e.home.place false ≡ false
@@ -254,11 +252,11 @@ module _ (seal : Seal) (flat : Flat) (grounds : Grounds seal flat) where
         ∙ ap (λ b. (b || list_any (λ page. page == e.home.place) flat.named) || list_any (λ place. place == e.home.place) (places_of spots)) (not_ring e.home.place roomed.start)
         ∙ ap (λ b. b || list_any (λ place. place == e.home.place) (places_of spots)) alone.page
         ∙ none_any (λ place. place == e.home.place) (places_of spots)
-          (every_map (λ place. (place == e.home.place) ≡ false) (λ (spot : Spot). spot.place) spots
-              (of_spots (λ spot. (spot.place == e.home.place) ≡ false)
-                  (every_both (IsSound table seal.sectors seal.group) (IsApartFrom e) (λ (p : Pointer). (p.place == e.home.place) ≡ false)
-                      (λ p is apart. eqb_back e.home.place p.place (differ_if e.home.place p.place (run_length e.key) (run_length p.key) roomed.run is.ranged.run apart))
-                      pool.pointers sound alone.pointers)))
+        (every_map (λ place. (place == e.home.place) ≡ false) (λ (spot : Spot). spot.place) spots
+        (of_spots (λ spot. (spot.place == e.home.place) ≡ false)
+        (every_both (IsSound table seal.sectors seal.group) (IsApartFrom e) (λ (p : Pointer). (p.place == e.home.place) ≡ false)
+        (λ p is apart. eqb_back e.home.place p.place (differ_if e.home.place p.place (run_length e.key) (run_length p.key) roomed.run is.ranged.run apart))
+        pool.pointers sound alone.pointers)))
       where
         eqb_back : (a b : ℕ) → (a == b) ≡ false → (b == a) ≡ false
         eqb_back a b differ = grind (arith, nat_tests)
@@ -284,13 +282,13 @@ module _ (seal : Seal) (flat : Flat) (grounds : Grounds seal flat) where
             ∙ ap (list_any (λ (spot : Spot). spot.place == s)) (sym same_spots)
             ∙ any_map (λ (spot : Spot). spot.place == s) spot_in pool.pointers
             ∙ any_same (λ (p : Pointer). p.place == s) (λ (p : Pointer). lies_in s p.place (run_length p.key)) pool.pointers
-              (every_weaker (IsSound table seal.sectors seal.group) (λ (p : Pointer). (p.place == s) ≡ lies_in s p.place (run_length p.key)) (λ p is. lies_in-one s p.place (run_length p.key) is.ranged.run) pool.pointers sound)
+            (every_weaker (IsSound table seal.sectors seal.group) (λ (p : Pointer). (p.place == s) ≡ lies_in s p.place (run_length p.key)) (λ p is. lies_in-one s p.place (run_length p.key) is.ranged.run) pool.pointers sound)
 
         by_waits : (s : ℕ) → list_any (λ place. place == s) (places_in waiting) ≡ list_any (λ (e : Entry). lies_in s e.home.place (run_length e.key)) waiting
         by_waits s =
             any_map (λ place. place == s) (λ (e : Entry). e.home.place) waiting
             ∙ any_same (λ (e : Entry). e.home.place == s) (λ (e : Entry). lies_in s e.home.place (run_length e.key)) waiting
-              (every_weaker (IsRoomed seal.sectors) (λ (e : Entry). (e.home.place == s) ≡ lies_in s e.home.place (run_length e.key)) (λ e roomed. lies_in-one s e.home.place (run_length e.key) roomed.run) waiting waiting_roomed)
+            (every_weaker (IsRoomed seal.sectors) (λ (e : Entry). (e.home.place == s) ≡ lies_in s e.home.place (run_length e.key)) (λ e roomed. lies_in-one s e.home.place (run_length e.key) roomed.run) waiting waiting_roomed)
 
         each : (s : ℕ) → s < seal.sectors → get_or (marked with_spots (places_in waiting)) s false ≡ is_used flat.named pool table s
         each s within =
@@ -304,24 +302,26 @@ module _ (seal : Seal) (flat : Flat) (grounds : Grounds seal flat) where
     pub whole_if : (used : List Bool) → Passed used → IsWhole image seal flat × (used ≡ used_sectors seal.sectors flat.named pool table)
     whole_if used passed =
         let took : WasTaken with_spots (places_in waiting) used = free_if_taken (places_in waiting) with_spots used waits_within passed.were_taken in
-        let alone : AllByRecursion IsAlone waiting = all_alone took.free in
-        (record {
-          well_formed = record {
-            together = together_if_apart table seal.sectors seal.group pool.pointers sound slots_apart
-                (subst (Pairwise (λ a b. go_apart a b ≡ true)) (sym same_spots) (apart_if_owned spots seal.sectors spots_within passed.owned));
-            within = every_weaker (IsSound table seal.sectors seal.group) (LiesWithin seal.sectors seal.group) (λ p is. within_of seal.sectors seal.group p is.ranged) pool.pointers sound;
-          };
-          matches = record {
-            homes = homes_if_counted pool table grounds.sorted known (ap (λ (l : List Spot). list_all (is_counted l) (counted_homes table)) same_spots ∙ passed.are_counted);
-            waiting = every_weaker IsAlone (λ (e : Entry). AllByRecursion (IsApartFrom e) pool.pointers) (λ e is. is.pointers) waiting alone;
-            apart = waits_apart took.differ;
-          };
-          homes = passed.homes;
-          references = passed.references;
-          pages = passed.pages;
-          pointers_clear = clear_if passed.are_clear;
-          waiting_clear = every_weaker IsAlone (λ (e : Entry). IsClear flat.named e.home.place) (λ e is. is.page) waiting alone;
-        }, took.used_then ∙ used_is)
+        let alone : AllByRecursion IsAlone waiting = all_alone took.free in (
+          record {
+            well_formed = record {
+              together = together_if_apart table seal.sectors seal.group pool.pointers sound slots_apart
+                  (subst (Pairwise (λ a b. go_apart a b ≡ true)) (sym same_spots) (apart_if_owned spots seal.sectors spots_within passed.owned));
+              within = every_weaker (IsSound table seal.sectors seal.group) (LiesWithin seal.sectors seal.group) (λ p is. within_of seal.sectors seal.group p is.ranged) pool.pointers sound;
+            };
+            matches = record {
+              homes = homes_if_counted pool table grounds.sorted known (ap (λ (l : List Spot). list_all (is_counted l) (counted_homes table)) same_spots ∙ passed.are_counted);
+              waiting = every_weaker IsAlone (λ (e : Entry). AllByRecursion (IsApartFrom e) pool.pointers) (λ e is. is.pointers) waiting alone;
+              apart = waits_apart took.differ;
+            };
+            homes = passed.homes;
+            references = passed.references;
+            pages = passed.pages;
+            pointers_clear = clear_if passed.are_clear;
+            waiting_clear = every_weaker IsAlone (λ (e : Entry). IsClear flat.named e.home.place) (λ e is. is.page) waiting alone;
+          },
+          took.used_then ∙ used_is,
+        )
 
     -- what is whole passes all tests
     pub passed_if : IsWhole image seal flat → Passed (marked with_spots (places_in waiting))
@@ -335,6 +335,6 @@ module _ (seal : Seal) (flat : Flat) (grounds : Grounds seal flat) where
           (subst (Pairwise (λ a b. go_apart a b ≡ true)) same_spots (apart_if_together table seal.sectors seal.group pool.pointers sound whole.well_formed.together));
       were_taken = taken_if_free (places_in waiting) with_spots waits_within
           (all_free (every_both (λ (e : Entry). IsClear flat.named e.home.place) (λ (e : Entry). AllByRecursion (IsApartFrom e) pool.pointers) IsAlone
-              (λ e clear apart. record { page = clear; pointers = apart }) waiting whole.waiting_clear whole.matches.waiting))
+          (λ e clear apart. record { page = clear; pointers = apart }) waiting whole.waiting_clear whole.matches.waiting))
           (waits_differ whole.matches.apart);
     }

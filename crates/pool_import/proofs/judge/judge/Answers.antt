@@ -1,4 +1,3 @@
-use Rattle.table_state.specs.Flat.{Flat}
 use Rattle.pool_import.proofs.JudgingWhole.{Grounds}
 use Rattle.pool_import.proofs.JudgingAnswers.{whole_result, broken_result}
 use Rattle.pool_import.proofs.judge.judge.Goals as goal
