@@ -33,10 +33,10 @@ less_apart Less is = refl
 less_apart Equal is = absurd (false≢true is)
 less_apart Greater is = refl
 
-earlier_apart : (a b : Key) → is_lt (key_cmp a b) ≡ true → key_eq a b ≡ false
+pub earlier_apart : (a b : Key) → is_lt (key_cmp a b) ≡ true → key_eq a b ≡ false
 earlier_apart a b before = sym (is_eq-key_cmp a b) ∙ less_apart (key_cmp a b) before
 
-earlier_yet : (a b c : Key) → is_lt (key_cmp a b) ≡ true → is_lt (key_cmp b c) ≡ true → is_lt (key_cmp a c) ≡ true
+pub earlier_yet : (a b c : Key) → is_lt (key_cmp a b) ≡ true → is_lt (key_cmp b c) ≡ true → is_lt (key_cmp a c) ≡ true
 earlier_yet a b c one other = ap is_lt (key_cmp_total.trans a b c (less_of (key_cmp a b) one) (less_of (key_cmp b c) other))
 
 -- ---- What a change makes of entries
@@ -48,7 +48,7 @@ every_set P e (f ∷ fs) here each =
     elim (key_cmp e.key f.key) as (λ o. AllByRecursion P (if is_lt o then e ∷ f ∷ fs else (if is_eq o then e ∷ fs else f ∷ set_entry e fs)))
     [ Less ↦ (here, each) | Equal ↦ (here, each.1) | Greater ↦ (each.0, rest) ]
 
-abbrev IsBefore : Entry → Entry → Type 0
+abbrev pub IsBefore : Entry → Entry → Type 0
 IsBefore a b = is_lt (key_cmp a.key b.key) ≡ true
 
 rising_set : (e : Entry) (es : List Entry) → AreRising es → AreRising (set_entry e es)

@@ -8,3 +8,4 @@ pub mod JudgingPairs
 pub mod JudgingUsed
 pub mod JudgingWhole
 pub mod JudgingAnswers
+pub mod JudgingKeys

@@ -11,6 +11,7 @@ mod changes;
 mod flat;
 mod judge;
 mod judge_counts;
+mod judge_keys;
 mod judge_places;
 mod marks;
 mod parts;
