@@ -1,18 +1,23 @@
 -- What the one answer says of each image.
-use Rattle.std.proofs.Common.{◌≡◌, ℕ, Bool, true, false, ◌&&◌, ◌==◌, List, length, map, replicate, Option, Some, None, refl, sym, ap, ◌∙◌, eq-eqb}
-use Rattle.std.specs.Prelude.{sum_by, if◌then◌else◌, IfSome, IfNone, IfOk, Result, Ok, Err}
+use Rattle.std.proofs.Common.{◌≡◌, ℕ, Bool, true, false, ◌&&◌, ◌==◌, List, length, map, replicate, Option, Some, None, refl, sym, ap, subst, ◌∙◌, eq-eqb}
+use Rattle.std.specs.Prelude.{sum_by, filter, nat_lt, if◌then◌else◌, IfSome, IfNone, IfOk, Result, Ok, Err}
 use Rattle.std.specs.List.{list_all}
 use Rattle.std.proofs.lemmas.Bool.{and_parts, eqb-true}
+use Rattle.ddt_entry.specs.declared.entry.Entry.{Entry}
 use Rattle.disk_model.specs.Images.{Image}
 use Rattle.uber_ring.specs.declared.seal.Seal.{Seal}
-use Rattle.pool_model.specs.Table.{TableState, waiting_in}
+use Rattle.pool_model.specs.Table.{TableState, waiting_in, entries_found}
 use Rattle.pool_model.specs.Space.{used_sectors}
-use Rattle.table_state.specs.Flat.{Flat, table_in, pool_in, counted_homes}
+use Rattle.table_state.specs.Flat.{Flat, AreRising, table_in, pool_in, counted_homes}
 use Rattle.table_state.specs.declared.slot_record.SlotRecord.{SlotRecord}
+use Rattle.table_state.specs.Tables.{IsTable}
 use Rattle.pool_import.specs.Judged.{counts_hold, pages_used, sectors_taken, judged}
-use Rattle.pool_import.specs.Marks.{spot_of, sums_agree, is_counted, are_owned, marked, taken, places_of, places_in, is_clear}
+use Rattle.pool_import.specs.Marks.{spot_of, spot_among, sums_agree, is_counted, are_owned, marked, taken, places_of, places_in, is_clear}
 use Rattle.pool_import.specs.Whole.{IsWhole}
 use Rattle.pool_import.specs.declared.marks.Spot.{Spot}
+use Rattle.pool_import.proofs.JudgingLists.{pairs_filter}
+use Rattle.pool_import.proofs.JudgingFound.{IsBefore, rising_found}
+use Rattle.pool_import.proofs.JudgingKeys.{spots_among}
 use Rattle.pool_import.proofs.JudgingWhole.{Grounds, Passed, whole_if, passed_if}
 
 and_both : (a b : Bool) → a ≡ true → b ≡ true → (a && b) ≡ true
@@ -45,7 +50,7 @@ module _ (seal : Seal) (flat : Flat) (grounds : Grounds seal flat) where
   -- the sectors are told where all tests passed
   passed_of : (used : List Bool) → judged seal flat table ≡ Some used → Passed seal flat grounds used
   passed_of used is =
-      let outer = chosen (counts_hold seal table spots (length flat.named)) (sectors_taken seal.sectors flat.named spots table) used is in
+      let outer = chosen (counts_hold seal (counted_homes table) spots (length flat.named)) (sectors_taken seal.sectors flat.named spots table) used is in
       let counts = and_parts sums (list_all (is_counted spots) (counted_homes table)) outer.0 in
       let pages = and_parts _ (seal.pages == length flat.named) counts.0 in
       let numbers = and_parts (seal.homes == length (counted_homes table)) _ pages.0 in
@@ -103,23 +108,46 @@ broken_result seal flat grounds t same result told =
     ok_weaker (λ found. found ≡ judged seal flat t) (λ found. IfNone found ((image : Image) → IsWhole image seal flat → ⊥))
     (λ found is. broken_where_none seal flat grounds found t same is) result told
 
--- the places decide, once the counts hold
-pub places_decide : {E : Type 0} (seal : Seal) (flat : Flat) (t : TableState) (slots : List SlotRecord) (spots first second : List Spot) (named : List ℕ) (pages : ℕ) (holds : Bool) (result : Result (Option (List Bool)) E)
-    → slots ≡ flat.slots → spots ≡ map (spot_of t) slots → first ≡ spots → second ≡ spots → named ≡ flat.named → pages ≡ length flat.named → holds ≡ counts_hold seal t first pages → holds ≡ true
-    → IfOk result (λ found. found ≡ sectors_taken seal.sectors named second t) → IfOk result (λ found. found ≡ judged seal flat t)
-places_decide seal flat t slots spots first second named pages holds result slots_are spots_are first_are second_are named_are pages_are holds_is right told =
-    ok_weaker (λ found. found ≡ sectors_taken seal.sectors named second t) (λ found. found ≡ judged seal flat t) (λ found is. is ∙ by_counts) result told
-  where
-    all : spots ≡ map (spot_of t) flat.slots
-    all = spots_are ∙ ap (map (spot_of t)) slots_are
+-- what the calls of the judgement have made
+pub record Made (seal : Seal) (flat : Flat) (t : TableState) (entries homes : List Entry) (spots : List Spot) (pages : ℕ) : Type 0 where
+  pub entries_are : entries ≡ entries_found t
+  pub homes_are : homes ≡ filter (λ entry. nat_lt 0 entry.home.count) entries
+  pub spots_are : spots ≡ map (spot_among entries) flat.slots
+  pub pages_are : pages ≡ length flat.named
 
-    counts : counts_hold seal t (map (spot_of t) flat.slots) (length flat.named) ≡ true
-    counts =
-        sym (ap (λ (s : List Spot). counts_hold seal t s pages) (first_are ∙ all) ∙ ap (counts_hold seal t (map (spot_of t) flat.slots)) pages_are)
-        ∙ sym holds_is ∙ right
+module _ (seal : Seal) (flat : Flat) (t : TableState) (sorted : IsTable t) (entries homes : List Entry) (spots : List Spot) (pages : ℕ) (made : Made seal flat t entries homes spots pages) where
+  all_spots : spots ≡ map (spot_of t) flat.slots
+  all_spots = made.spots_are ∙ ap (λ (es : List Entry). map (spot_among es) flat.slots) made.entries_are ∙ spots_among t flat.slots sorted
 
-    by_counts : sectors_taken seal.sectors named second t ≡ judged seal flat t
-    by_counts =
-        ap (λ (n : List ℕ). sectors_taken seal.sectors n second t) named_are
-        ∙ ap (λ (s : List Spot). sectors_taken seal.sectors flat.named s t) (second_are ∙ all)
-        ∙ sym (ap (λ b. if b then sectors_taken seal.sectors flat.named (map (spot_of t) flat.slots) t else None) counts)
+  all_homes : homes ≡ counted_homes t
+  all_homes = made.homes_are ∙ ap (filter (λ (entry : Entry). nat_lt 0 entry.home.count)) made.entries_are
+
+  counts_are : counts_hold seal homes spots pages ≡ counts_hold seal (counted_homes t) (map (spot_of t) flat.slots) (length flat.named)
+  counts_are =
+      ap (λ (h : List Entry). counts_hold seal h spots pages) all_homes
+      ∙ ap (λ (s : List Spot). counts_hold seal (counted_homes t) s pages) all_spots
+      ∙ ap (counts_hold seal (counted_homes t) (map (spot_of t) flat.slots)) made.pages_are
+
+  -- nothing is told where the counts don't hold
+  pub none_decided : counts_hold seal homes spots pages ≡ false → None ≡ judged seal flat t
+  none_decided fails = sym (ap (λ b. if b then sectors_taken seal.sectors flat.named (map (spot_of t) flat.slots) t else None) (sym counts_are ∙ fails))
+
+  -- the places decide, once the counts hold
+  pub places_decide : {E : Type 0} (named : List ℕ) (result : Result (Option (List Bool)) E) → named ≡ flat.named → counts_hold seal homes spots pages ≡ true
+      → IfOk result (λ found. found ≡ sectors_taken seal.sectors named spots t) → IfOk result (λ found. found ≡ judged seal flat t)
+  places_decide named result named_are right told =
+      ok_weaker (λ found. found ≡ sectors_taken seal.sectors named spots t) (λ found. found ≡ judged seal flat t) (λ found is. is ∙ by_counts) result told
+    where
+      by_counts : sectors_taken seal.sectors named spots t ≡ judged seal flat t
+      by_counts =
+          ap (λ (n : List ℕ). sectors_taken seal.sectors n spots t) named_are
+          ∙ ap (λ (s : List Spot). sectors_taken seal.sectors flat.named s t) all_spots
+          ∙ sym (ap (λ b. if b then sectors_taken seal.sectors flat.named (map (spot_of t) flat.slots) t else None) (sym counts_are ∙ right))
+
+-- the homes of a table rise, and so do those that are counted
+pub found_rising : (t : TableState) (entries : List Entry) → IsTable t → entries ≡ entries_found t → AreRising entries
+found_rising t entries sorted are = subst AreRising (sym are) (rising_found t sorted)
+
+pub homes_rising : (t : TableState) (entries homes : List Entry) → IsTable t → entries ≡ entries_found t → homes ≡ filter (λ entry. nat_lt 0 entry.home.count) entries → AreRising homes
+homes_rising t entries homes sorted are homes_are =
+    subst AreRising (sym homes_are) (pairs_filter IsBefore (λ (entry : Entry). nat_lt 0 entry.home.count) entries (found_rising t entries sorted are))

@@ -1,6 +1,7 @@
 -- The tests of the whole of an image, as one answer: the sectors that are used, or nothing where a rule is broken.
 use Rattle.std.specs.Prelude.{ℕ, Bool, ◌&&◌, List, length, map, replicate, Option, None, if◌then◌else◌}
 use Rattle.std.specs.List.{list_all}
+use Rattle.ddt_entry.specs.declared.entry.Entry.{Entry}
 use Rattle.uber_ring.specs.declared.seal.Seal.{Seal}
 use Rattle.pool_model.specs.Table.{TableState, waiting_in}
 use Rattle.table_state.specs.Flat.{Flat, counted_homes}
@@ -8,8 +9,8 @@ use Rattle.pool_import.specs.Marks.{spot_of, sums_agree, is_counted, are_owned, 
 use Rattle.pool_import.specs.declared.marks.Spot.{Spot}
 
 -- whether the seal's sums and the homes' counts are right
-abbrev pub counts_hold : Seal → TableState → List Spot → (pages : ℕ) → Bool
-counts_hold seal table spots pages = sums_agree seal (counted_homes table) pages && list_all (is_counted spots) (counted_homes table)
+abbrev pub counts_hold : Seal → (homes : List Entry) → List Spot → (pages : ℕ) → Bool
+counts_hold seal homes spots pages = sums_agree seal homes pages && list_all (is_counted spots) homes
 
 -- the sectors of the ring and the pages
 abbrev pub pages_used : (sectors : ℕ) → (named : List ℕ) → List Bool
@@ -24,6 +25,6 @@ sectors_taken sectors named spots table =
 
 abbrev pub judged : Seal → Flat → TableState → Option (List Bool)
 judged seal flat table =
-    if counts_hold seal table (map (spot_of table) flat.slots) (length flat.named)
+    if counts_hold seal (counted_homes table) (map (spot_of table) flat.slots) (length flat.named)
     then sectors_taken seal.sectors flat.named (map (spot_of table) flat.slots) table
     else None

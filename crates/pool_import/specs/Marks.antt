@@ -6,7 +6,7 @@ use Rattle.ddt_entry.specs.declared.key.Key.{Key}
 use Rattle.ddt_entry.specs.declared.entry.Entry.{Entry}
 use Rattle.uber_ring.specs.declared.seal.Seal.{Seal}
 use Rattle.pool_model.specs.Pool.{Pointer, is_tracked}
-use Rattle.pool_model.specs.Table.{TableState, found}
+use Rattle.pool_model.specs.Table.{TableState, entry_at, found}
 use Rattle.table_state.specs.Flat.{mark_of}
 use Rattle.table_state.specs.declared.slot_record.SlotRecord.{SlotRecord}
 use Rattle.pool_import.specs.declared.marks.Spot.{Spot}
@@ -17,6 +17,14 @@ spot_of table slot = record {
   key = slot.pointer.key;
   place = slot.pointer.place;
   tracked = is_tracked (mark_of slot.pointer.kind (found table slot.pointer.key) slot.pointer.place slot.pointer.birth);
+}
+
+-- the same by the homes that the table finds
+abbrev pub spot_among : List Entry → SlotRecord → Spot
+spot_among entries slot = record {
+  key = slot.pointer.key;
+  place = slot.pointer.place;
+  tracked = is_tracked (mark_of slot.pointer.kind (entry_at slot.pointer.key entries) slot.pointer.place slot.pointer.birth);
 }
 
 -- the same of a pointer of a pool

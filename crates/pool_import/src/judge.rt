@@ -9,7 +9,7 @@ ghost use Rattle.std.specs.Prelude.{◌≡◌, ◌≤◌, IfOk, IfSome, IfNone, 
 ghost use Rattle.std.specs.List.{AllByRecursion};
 ghost use Rattle.disk_model.specs.Images.{Image};
 ghost use Rattle.pool_model.specs.Space.{used_sectors};
-ghost use Rattle.table_state.specs.Flat.{HoldTogether, table_in, pool_in};
+ghost use Rattle.table_state.specs.Flat.{AreRising, HoldTogether, table_in, pool_in};
 ghost use Rattle.table_state.specs.SlotRecords.{is_slot};
 ghost use Rattle.table_state.specs.Tables.{IsTable, IsTableWithin};
 ghost use Rattle.pool_import.specs.Judged.{counts_hold, sectors_taken, judged};
@@ -17,9 +17,10 @@ ghost use Rattle.pool_import.specs.Lengths.{HasLengths};
 ghost use Rattle.pool_import.specs.Whole.{IsWhole};
 
 use crate::flat::FlatImage;
-use crate::judge_counts::{are_counted, counted_homes, sums_agree};
+use crate::judge_counts::{are_counted, only_counted, sums_agree};
 use crate::judge_places::{are_clear, are_owned, mark_all, mark_spots, take_homes, with_ring};
 use crate::marks::{Spot, spots_of};
+use ddt_entry::Entry;
 use grant_book::SectorSet;
 use plain_table::PlainTable;
 use std::alloc::{AllocError, Global};
@@ -53,32 +54,35 @@ fn judged(
     flat: &FlatImage,
     table: &PlainTable,
 ) -> Result<Option<SectorSet>, AllocError>
-    requires { 32 ≤ seal.now.sectors }
+    requires ring { 32 ≤ seal.now.sectors }
+    requires sorted { IsTable table.now }
     ensures { IfOk result (λ found. found ≡ judged seal.now flat.now table.now) }
 {
-    let spots = spots_of(alloc, table, flat.slots.as_slice())?;
-    if !counts_hold(alloc, seal, table, spots.as_slice(), flat.named.len())? {
+    let found = table.entries_found(alloc)?;
+    let known = spots_of(alloc, found.as_slice(), flat.slots.as_slice())?;
+    let spots = known.as_slice();
+    let homes = only_counted(found);
+    if !counts_hold(alloc, seal, homes.as_slice(), spots, flat.named.len())? {
         return Ok(None);
     }
-    let named = flat.named.as_slice();
-    sectors_taken(alloc, seal.sectors, named, spots.as_slice(), table)
+    sectors_taken(alloc, seal.sectors, flat.named.as_slice(), spots, table)
 }
 
 /// Whether the seal's sums and the homes' counts are right. The error is want of memory.
 fn counts_hold(
     alloc: Global,
     seal: &Seal,
-    table: &PlainTable,
+    homes: &[Entry],
     spots: &[Spot],
     pages: u64,
 ) -> Result<bool, AllocError>
-    ensures { IfOk result (λ holds. holds ≡ counts_hold seal.now table.now spots.now pages) }
+    requires { AreRising homes.now }
+    ensures { IfOk result (λ holds. holds ≡ counts_hold seal.now homes.now spots.now pages) }
 {
-    let homes = counted_homes(alloc, table)?;
-    if !sums_agree(seal, homes.as_slice(), pages) {
+    if !sums_agree(seal, homes, pages) {
         return Ok(false);
     }
-    Ok(are_counted(homes.as_slice(), spots))
+    are_counted(alloc, homes, spots)
 }
 
 /// The sectors that are used, where no page, no two blocks and no home that waits share one. The error is

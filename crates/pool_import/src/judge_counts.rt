@@ -1,67 +1,55 @@
-ghost use Rattle.std.specs.Prelude.{◌≡◌, ◌==◌, ℕ, IfOk, nat_lt, filter, count_by, sum_by};
+ghost use Rattle.std.specs.Prelude.{◌≡◌, ◌==◌, ℕ, IfOk, nat_lt, map, filter, count_by, sum_by};
 ghost use Rattle.std.specs.List.{list_all};
-ghost use Rattle.table_state.specs.Flat.{counted_homes};
+ghost use Rattle.table_state.specs.Flat.{AreRising};
 ghost use Rattle.pool_import.specs.Marks.{counts_for, is_counted, sums_agree};
 
+use crate::judge_keys::index_of;
 use crate::marks::Spot;
-use ddt_entry::{Entry, Key};
-use plain_table::PlainTable;
+use ddt_entry::Entry;
 use std::alloc::{AllocError, Global};
 use uber_ring::Seal;
 
-/// The homes that are counted, sorted by key. The error is want of memory.
-pub fn counted_homes(alloc: Global, table: &PlainTable) -> Result<Vec<Entry>, AllocError>
-    ensures { IfOk result (λ homes. homes.items ≡ counted_homes table.now) }
-{
-    let found = table.entries_found(alloc)?;
-    Ok(only_counted(found))
-}
-
 /// The entries with a count above 0.
-fn only_counted(mut entries: Vec<Entry>) -> Vec<Entry>
+pub fn only_counted(mut entries: Vec<Entry>) -> Vec<Entry>
     ensures { result.items ≡ filter (λ entry. nat_lt 0 entry.home.count) entries.items }
 {
     entries.retain(|entry| entry.home.count > 0);
     entries
 }
 
-/// Whether the table counts a slot under this key.
-fn counts_for(key: &Key, spot: &Spot) -> bool
-    ensures { result ≡ counts_for key.now spot.now }
+/// How many slots the table counts under the key of each of these homes, which rise by key. The error is
+/// want of memory.
+fn tallies_of(alloc: Global, homes: &[Entry], spots: &[Spot]) -> Result<Vec<u64>, AllocError>
+    requires { AreRising homes.now }
+    ensures { IfOk result (λ tallies. tallies.items ≡ map (λ entry. count_by (counts_for entry.key) spots.now) homes.now) }
 {
-    spot.tracked && spot.key == *key
-}
-
-/// How many slots the table counts under this key.
-fn pointers_of(key: &Key, spots: &[Spot]) -> u64
-    ensures { result ≡ count_by (counts_for key.now) spots.now }
-{
-    let mut count = 0;
+    let mut tallies = Vec::new(alloc);
+    tallies.resize(homes.len(), 0)?;
     'spots: for spot in spots {
-        if counts_for(key, spot) {
-            count += 1;
+        if !spot.tracked {
+            continue;
         }
+        let Some(at) = index_of(homes, &spot.key) else {
+            continue;
+        };
+        tallies[at] += 1;
     }
-    count
+    Ok(tallies)
 }
 
-/// Whether a home's count is the number of slots that are counted under its key.
-fn is_counted(entry: &Entry, spots: &[Spot]) -> bool
-    ensures { result ≡ is_counted spots.now entry.now }
+/// Whether each home's count is the number of slots that are counted under its key. The error is want of
+/// memory.
+pub fn are_counted(alloc: Global, homes: &[Entry], spots: &[Spot]) -> Result<bool, AllocError>
+    requires { AreRising homes.now }
+    ensures { IfOk result (λ counted. counted ≡ list_all (is_counted spots.now) homes.now) }
 {
-    pointers_of(&entry.key, spots) == entry.home.count
-}
-
-/// Whether each home's count is.
-pub fn are_counted(homes: &[Entry], spots: &[Spot]) -> bool
-    ensures { result ≡ list_all (is_counted spots.now) homes.now }
-{
-    'homes: for entry in homes {
-        if !is_counted(entry, spots) {
-            return false;
+    let tallies = tallies_of(alloc, homes, spots)?;
+    for (at, entry) in homes.iter().enumerate() {
+        if tallies[at] != entry.home.count {
+            return Ok(false);
         }
     }
-    true
+    Ok(true)
 }
 
 /// Whether the homes' counts come to this sum.

@@ -1,10 +1,10 @@
 ghost use Rattle.std.specs.Prelude.{◌≡◌, IfOk, map};
 ghost use Rattle.pool_model.specs.Pool.{is_tracked};
-ghost use Rattle.table_state.specs.Flat.{mark_by, mark_of};
-ghost use Rattle.pool_import.specs.Marks.{spot_of};
+ghost use Rattle.table_state.specs.Flat.{AreRising, mark_by, mark_of};
+ghost use Rattle.pool_import.specs.Marks.{spot_among};
 
-use ddt_entry::{Home, Key, SlotKind};
-use plain_table::PlainTable;
+use crate::judge_keys::home_at;
+use ddt_entry::{Entry, Home, Key, SlotKind};
 use std::alloc::{AllocError, Global};
 use table_state::SlotRecord;
 
@@ -29,14 +29,15 @@ fn is_home(home: Option<Home>, place: u64, birth: u64) -> bool
     }
 }
 
-/// What a slot's pointer is to the table.
-fn spot_of(table: &PlainTable, slot: &SlotRecord) -> Spot
-    ensures { result ≡ spot_of table.now slot.now }
+/// What a slot's pointer is to a table that finds these homes.
+fn spot_of(found: &[Entry], slot: &SlotRecord) -> Spot
+    requires { AreRising found.now }
+    ensures { result ≡ spot_among found.now slot.now }
 {
     let pointer = slot.pointer;
     let tracked = match pointer.kind {
         SlotKind::Plain => false,
-        SlotKind::Flagged => is_home(table.found(&pointer.key), pointer.place, pointer.birth),
+        SlotKind::Flagged => is_home(home_at(found, &pointer.key), pointer.place, pointer.birth),
     };
     Spot {
         key: pointer.key,
@@ -45,17 +46,18 @@ fn spot_of(table: &PlainTable, slot: &SlotRecord) -> Spot
     }
 }
 
-/// What each slot's pointer is to the table. The error is want of memory.
+/// What each slot's pointer is to a table that finds these homes. The error is want of memory.
 pub fn spots_of(
     alloc: Global,
-    table: &PlainTable,
+    found: &[Entry],
     slots: &[SlotRecord],
 ) -> Result<Vec<Spot>, AllocError>
-    ensures { IfOk result (λ spots. spots.items ≡ map (spot_of table.now) slots.now) }
+    requires { AreRising found.now }
+    ensures { IfOk result (λ spots. spots.items ≡ map (spot_among found.now) slots.now) }
 {
     let mut spots = Vec::new(alloc);
     'slots: for slot in slots {
-        spots.push(spot_of(table, slot))?;
+        spots.push(spot_of(found, slot))?;
     }
     Ok(spots)
 }
