@@ -1,12 +1,10 @@
 -- The search for a key among entries that rise by key, and how a count is kept for each of them.
-use Rattle.std.proofs.Common.{◌≡◌, ℕ, zero, suc, ◌+◌, ◌<◌, ◌≤◌, Bool, true, false, cond, ◌&&◌, List, [], ◌∷◌, ◌++◌, length, get_or, set, take, drop, map, replicate, Option, Some, None, refl, sym, ap, subst, ◌∙◌, arith, add-one}
+use Rattle.std.proofs.Common.{◌≡◌, ℕ, zero, suc, ◌+◌, ◌<◌, ◌≤◌, Bool, true, false, cond, ◌&&◌, List, [], ◌∷◌, length, get_or, set, take, drop, map, replicate, Option, Some, None, refl, sym, ap, subst, ◌∙◌, arith}
 use Rattle.std.specs.Prelude.{slice_get, count_by}
 use Rattle.std.specs.List.{AllByRecursion, find}
 use Rattle.std.specs.Option.{option_map}
 use Rattle.std.specs.Ordering.{is_eq, is_lt, ordering_reverse}
-use Rattle.std.specs.declared.cmp.Ordering.{Ordering}
 use Rattle.std.specs.declared.cmp.Ordering.TheVariants.{Less, Equal, Greater}
-use Rattle.std.proofs.lemmas.Bool.{false≢true}
 use Rattle.std.proofs.lemmas.Option.{get_or_from_slice_get}
 use Rattle.std.proofs.lemmas.List.{take_more, at_drop_more, length-take, get_or_read}
 use Rattle.std.proofs.lemmas.List.Sums.{count_by_more_yes, count_by_more_no, count_by-le-length}
@@ -14,8 +12,8 @@ use Rattle.ddt_entry.specs.Keys.{key_cmp, key_eq}
 use Rattle.ddt_entry.specs.declared.key.Key.{Key}
 use Rattle.ddt_entry.specs.declared.entry.Home.{Home}
 use Rattle.ddt_entry.specs.declared.entry.Entry.{Entry}
-use Rattle.ddt_entry.proofs.KeyLaws.{key_cmp_total, is_eq-key_cmp, key_eq-true, key_eq-same, key_eq-symm}
-use Rattle.pool_model.specs.Table.{TableState, entry_at, entries_found, found}
+use Rattle.ddt_entry.proofs.KeyLaws.{key_cmp_total, is_eq-key_cmp, key_eq-true, key_eq-symm}
+use Rattle.pool_model.specs.Table.{TableState, entry_at, entries_found}
 use Rattle.pool_model.specs.Pool.{is_tracked}
 use Rattle.table_state.specs.Flat.{AreRising, mark_of}
 use Rattle.table_state.specs.Tables.{IsTable}
@@ -54,16 +52,18 @@ all_below es at d key rising within less =
     let last : IsBelow key (get_or es at d) = ap is_lt less in
     subst (AllByRecursion (IsBelow key)) (sym (take_more es at d within))
     (every_push (IsBelow key) (take at es) (get_or es at d)
-        (every_weaker (λ x. IsBefore x (get_or es at d)) (IsBelow key) (λ x earlier. earlier_yet x.key (get_or es at d).key key earlier last) (take at es) (before_at es at d rising within)) last)
+    (every_weaker (λ x. IsBefore x (get_or es at d)) (IsBelow key) (λ x earlier. earlier_yet x.key (get_or es at d).key key earlier last) (take at es) (before_at es at d rising within)) last)
 
 -- the entry at a place is above: all from it on are
 pub all_above : (es : List Entry) (at : ℕ) (d : Entry) (key : Key) → AreRising es → at < length es → key_cmp (get_or es at d).key key ≡ Greater → AllByRecursion (IsAbove key) (drop at es)
 all_above es at d key rising within greater =
     let first : IsAbove key (get_or es at d) = ap is_lt (key_cmp_total.antisymm key (get_or es at d).key ∙ ap ordering_reverse greater) in
     let next : suc at ≡ at + 1 = omega arith in
-    subst (AllByRecursion (IsAbove key)) (sym (at_drop_more (λ l. l) es at d within))
-    (first, subst (λ n. AllByRecursion (IsAbove key) (drop n es)) next
-        (every_weaker (IsBefore (get_or es at d)) (IsAbove key) (λ x later. earlier_yet key (get_or es at d).key x.key first later) (drop (suc at) es) (behind_at es at d rising within)))
+    subst (AllByRecursion (IsAbove key)) (sym (at_drop_more (λ l. l) es at d within)) (
+      first,
+      subst (λ n. AllByRecursion (IsAbove key) (drop n es)) next
+          (every_weaker (IsBefore (get_or es at d)) (IsAbove key) (λ x later. earlier_yet key (get_or es at d).key x.key first later) (drop (suc at) es) (behind_at es at d rising within)),
+    )
 
 every_joined : {X : Type 0} (P : X → Type 0) (n : ℕ) (xs : List X) → AllByRecursion P (take n xs) → AllByRecursion P (drop n xs) → AllByRecursion P xs
 every_joined P n [] front back = tt
@@ -76,7 +76,7 @@ none_of_key es low high key met below above =
     every_joined (λ e. key_eq e.key key ≡ false) low es
     (every_weaker (IsBelow key) (λ e. key_eq e.key key ≡ false) (λ e less. earlier_apart e.key key less) (take low es) below)
     (subst (λ n. AllByRecursion (λ (e : Entry). key_eq e.key key ≡ false) (drop n es)) (sym met)
-        (every_weaker (IsAbove key) (λ e. key_eq e.key key ≡ false) (λ e more. key_eq-symm e.key key ∙ earlier_apart key e.key more) (drop high es) above))
+    (every_weaker (IsAbove key) (λ e. key_eq e.key key ≡ false) (λ e more. key_eq-symm e.key key ∙ earlier_apart key e.key more) (drop high es) above))
 
 slice_get-at : {X : Type 0} (xs : List X) (i : ℕ) (d : X) → i < length xs → slice_get xs i ≡ Some (get_or xs i d)
 slice_get-at [] i d within = absurd (omega arith)
@@ -140,24 +140,17 @@ tally_more spots i d e within = by_test (counts_for e.key (get_or spots i d)) re
 adds_none : (n : ℕ) (b : Bool) → b ≡ false → n + cond b 1 0 ≡ n
 adds_none n b none = ap (λ x. n + cond x 1 0) none ∙ omega arith
 
--- a slot that the table doesn't count adds nothing
-pub tallies_past : (homes : List Entry) (spots : List Spot) (i : ℕ) (d : Spot) → i < length spots → (get_or spots i d).tracked ≡ false → map (tally (take i spots)) homes ≡ map (tally (take (i + 1) spots)) homes
-tallies_past homes spots i d within untracked =
-    same_map (tally (take i spots)) (tally (take (i + 1) spots)) homes
-    (every_of (λ e. tally (take i spots) e ≡ tally (take (i + 1) spots) e)
-        (λ e. sym (tally_more spots i d e within ∙ adds_none (tally (take i spots) e) (counts_for e.key (get_or spots i d)) (ap (λ b. b && key_eq (get_or spots i d).key e.key) untracked))) homes)
-
 and_none : (a b : Bool) → b ≡ false → (a && b) ≡ false
 and_none true b none = none
 and_none false b none = refl
 
--- nor does a slot of a key that no home has
+-- a slot of a key that no home has adds nothing
 pub tallies_absent : (homes : List Entry) (spots : List Spot) (i : ℕ) (d : Spot) → i < length spots → AllByRecursion (λ e. key_eq e.key (get_or spots i d).key ≡ false) homes → map (tally (take i spots)) homes ≡ map (tally (take (i + 1) spots)) homes
 tallies_absent homes spots i d within absent =
     let spot = get_or spots i d in
     same_map (tally (take i spots)) (tally (take (i + 1) spots)) homes
     (every_weaker (λ (e : Entry). key_eq e.key spot.key ≡ false) (λ e. tally (take i spots) e ≡ tally (take (i + 1) spots) e)
-        (λ e other. sym (tally_more spots i d e within ∙ adds_none (tally (take i spots) e) (counts_for e.key spot) (and_none spot.tracked (key_eq spot.key e.key) (key_eq-symm spot.key e.key ∙ other)))) homes absent)
+    (λ e other. sym (tally_more spots i d e within ∙ adds_none (tally (take i spots) e) (counts_for e.key spot) (and_none spot.tracked (key_eq spot.key e.key) (key_eq-symm spot.key e.key ∙ other)))) homes absent)
 
 -- a slot of a home's key is one more for that home
 tallies_bumped : (homes : List Entry) (spots : List Spot) (i : ℕ) (d : Spot) (at : ℕ) → AreRising homes → i < length spots → (get_or spots i d).tracked ≡ true → ((entry : Entry) × (slice_get homes at ≡ Some entry) × (key_eq entry.key (get_or spots i d).key ≡ true))
@@ -213,4 +206,4 @@ pub spots_among : (table : TableState) (slots : List SlotRecord) → IsTable tab
 spots_among table slots is =
     same_map (spot_among (entries_found table)) (spot_of table) slots
     (every_of (λ slot. spot_among (entries_found table) slot ≡ spot_of table slot)
-        (λ slot. ap (λ (o : Option Home). record { key = slot.pointer.key; place = slot.pointer.place; tracked = is_tracked (mark_of slot.pointer.kind o slot.pointer.place slot.pointer.birth) }) (sym (found-is table slot.pointer.key is))) slots)
+    (λ slot. ap (λ (o : Option Home). record { key = slot.pointer.key; place = slot.pointer.place; tracked = is_tracked (mark_of slot.pointer.kind o slot.pointer.place slot.pointer.birth) }) (sym (found-is table slot.pointer.key is))) slots)

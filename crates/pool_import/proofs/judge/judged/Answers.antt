@@ -1,9 +1,8 @@
-use Rattle.std.proofs.Common.{◌≡◌, ◌∙◌, sym, ap, length, List, filter, map}
+use Rattle.std.proofs.Common.{◌∙◌, sym, ap, length, filter, map}
 use Rattle.std.specs.Prelude.{nat_lt}
 use Rattle.ddt_entry.specs.declared.entry.Entry.{Entry}
 use Rattle.table_state.specs.Flat.{Flat}
 use Rattle.pool_import.specs.Marks.{spot_among}
-use Rattle.pool_import.specs.Judged.{counts_hold, sectors_taken}
 use Rattle.pool_import.proofs.JudgingAnswers.{Made, none_decided, places_decide, found_rising, homes_rising}
 use Rattle.pool_import.proofs.judge.judged.Goals as goal
 

@@ -1,6 +1,6 @@
-use Rattle.std.proofs.Common.{◌≡◌, ◌∙◌, ◌≤◌, ◌+◌, ◌++◌, ◌-◌, sym, ap, length, take, replicate, List, ℕ, arith}
+use Rattle.std.proofs.Common.{◌≡◌, ◌∙◌, length, take, replicate, arith}
 use Rattle.std.proofs.lemmas.Grind.{common_steps}
-use Rattle.pool_import.proofs.JudgingKeys.{no_tallies, tallies_past, tallies_absent, tallied, tally_there, tally_small}
+use Rattle.pool_import.proofs.JudgingKeys.{no_tallies, tallies_absent, tallied, tally_there, tally_small}
 use Rattle.pool_import.proofs.judge_counts.tallies_of.Goals as goal
 
 pub spots-init : goal.spots-init

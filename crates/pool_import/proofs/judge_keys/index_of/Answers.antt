@@ -1,4 +1,4 @@
-use Rattle.std.proofs.Common.{◌≡◌, ◌≤◌, ◌∙◌, sym, arith}
+use Rattle.std.proofs.Common.{◌∙◌, sym, arith}
 use Rattle.pool_import.proofs.JudgingKeys.{all_below, all_above, none_of_key, met_at}
 use Rattle.pool_import.proofs.judge_keys.index_of.Goals as goal
 
