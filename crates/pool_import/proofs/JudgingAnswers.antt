@@ -19,6 +19,7 @@ use Rattle.pool_import.proofs.JudgingFound.{IsBefore, rising_found}
 use Rattle.pool_import.proofs.JudgingKeys.{spots_among}
 use Rattle.pool_import.proofs.JudgingWhole.{Grounds, Passed, whole_if, passed_if}
 
+-- two tests that hold
 and_both : (a b : Bool) → a ≡ true → b ≡ true → (a && b) ≡ true
 and_both a b first second = ap (λ x. x && b) first ∙ second
 
@@ -95,12 +96,14 @@ ok_weaker : {T E : Type 0} (P Q : T → Type 0) → ((x : T) → P x → Q x) �
 ok_weaker P Q weaker (Ok x) holds = weaker x holds
 ok_weaker P Q weaker (Err e) holds = tt
 
+-- a result that tells sectors tells of a whole image
 pub whole_result : {E : Type 0} (seal : Seal) (flat : Flat) (grounds : Grounds seal flat) (t : TableState) → t ≡ table_in seal flat → (result : Result (Option (List Bool)) E) → IfOk result (λ found. found ≡ judged seal flat t)
     → IfOk result (λ found. IfSome found (λ used. (image : Image) → IsWhole image seal flat × (used ≡ used_sectors seal.sectors flat.named (pool_in image seal flat) (table_in seal flat))))
 whole_result seal flat grounds t same result told =
     ok_weaker (λ found. found ≡ judged seal flat t) (λ found. IfSome found (λ used. (image : Image) → IsWhole image seal flat × (used ≡ used_sectors seal.sectors flat.named (pool_in image seal flat) (table_in seal flat))))
     (λ found is. whole_where_told seal flat grounds found t same is) result told
 
+-- a result that tells nothing tells of a broken one
 pub broken_result : {E : Type 0} (seal : Seal) (flat : Flat) (grounds : Grounds seal flat) (t : TableState) → t ≡ table_in seal flat → (result : Result (Option (List Bool)) E) → IfOk result (λ found. found ≡ judged seal flat t)
     → IfOk result (λ found. IfNone found ((image : Image) → IsWhole image seal flat → ⊥))
 broken_result seal flat grounds t same result told =
@@ -147,6 +150,7 @@ module _ (seal : Seal) (flat : Flat) (t : TableState) (sorted : IsTable t) (entr
 pub found_rising : (t : TableState) (entries : List Entry) → IsTable t → entries ≡ entries_found t → AreRising entries
 found_rising t entries sorted are = subst AreRising (sym are) (rising_found t sorted)
 
+-- the homes that are counted rise as those that are found do
 pub homes_rising : (t : TableState) (entries homes : List Entry) → IsTable t → entries ≡ entries_found t → homes ≡ filter (λ entry. nat_lt 0 entry.home.count) entries → AreRising homes
 homes_rising t entries homes sorted are homes_are =
     subst AreRising (sym homes_are) (pairs_filter IsBefore (λ (entry : Entry). nat_lt 0 entry.home.count) entries (found_rising t entries sorted are))

@@ -22,6 +22,7 @@ use Rattle.pool_import.proofs.JudgingLists.{every_weaker, every_both, every_filt
 
 -- ---- Orders
 
+-- the order in which a test of `<` holds
 less_of : (o : Ordering) → is_lt o ≡ true → o ≡ Less
 less_of Less is = refl
 less_of Equal is = absurd (false≢true is)
@@ -33,14 +34,17 @@ less_apart Less is = refl
 less_apart Equal is = absurd (false≢true is)
 less_apart Greater is = refl
 
+-- the same of keys
 pub earlier_apart : (a b : Key) → is_lt (key_cmp a b) ≡ true → key_eq a b ≡ false
 earlier_apart a b before = sym (is_eq-key_cmp a b) ∙ less_apart (key_cmp a b) before
 
+-- what comes before an earlier key comes before a later one
 pub earlier_yet : (a b c : Key) → is_lt (key_cmp a b) ≡ true → is_lt (key_cmp b c) ≡ true → is_lt (key_cmp a c) ≡ true
 earlier_yet a b c one other = ap is_lt (key_cmp_total.trans a b c (less_of (key_cmp a b) one) (less_of (key_cmp b c) other))
 
 -- ---- What a change makes of entries
 
+-- what holds of each entry and of a new one holds once it is set
 every_set : (P : Entry → Type 0) (e : Entry) (es : List Entry) → P e → AllByRecursion P es → AllByRecursion P (set_entry e es)
 every_set P e [] here each = (here, tt)
 every_set P e (f ∷ fs) here each =
@@ -48,9 +52,11 @@ every_set P e (f ∷ fs) here each =
     elim (key_cmp e.key f.key) as (λ o. AllByRecursion P (if is_lt o then e ∷ f ∷ fs else (if is_eq o then e ∷ fs else f ∷ set_entry e fs)))
     [ Less ↦ (here, each) | Equal ↦ (here, each.1) | Greater ↦ (each.0, rest) ]
 
+-- one entry comes before another
 abbrev pub IsBefore : Entry → Entry → Type 0
 IsBefore a b = is_lt (key_cmp a.key b.key) ≡ true
 
+-- entries that rise do so once one is set
 rising_set : (e : Entry) (es : List Entry) → AreRising es → AreRising (set_entry e es)
 rising_set e [] rising = (tt, tt)
 rising_set e (f ∷ fs) rising =
@@ -124,6 +130,7 @@ entry_at-change : (key : Key) (change : Change) (es : List Entry) → entry_at k
 entry_at-change key (changes.Entry entry) es = entry_at-set key entry es
 entry_at-change key (changes.Gone gone) es = entry_at-drop key gone es
 
+-- a log of other keys has no change of this one
 no_change : (key : Key) (log : List Change) → AllByRecursion (λ change. key_eq (key_in change) key ≡ false) log → change_at key log ≡ None
 no_change key [] each = refl
 no_change key (change ∷ log) each = ap (λ b. cond b (Some change) (find (λ c. key_eq (key_in c) key) log)) each.0 ∙ no_change key log each.1
@@ -156,11 +163,13 @@ found-is table key is =
 
 -- ---- The whole list
 
+-- entries that rise do so behind a log
 rising_log : (log : List Change) (es : List Entry) → AreRising es → AreRising (fold set_found es log)
 rising_log [] es rising = rising
 rising_log (changes.Entry entry ∷ log) es rising = rising_log log (set_entry entry es) (rising_set entry es rising)
 rising_log (changes.Gone key ∷ log) es rising = rising_log log (drop_entry key es) (pairs_filter IsBefore (λ entry. not (key_eq entry.key key)) es rising)
 
+-- what a table finds rises
 pub rising_found : (table : TableState) → IsTable table → AreRising (entries_found table)
 rising_found table is = rising_log table.active (fold set_found table.zap table.flush) (rising_log table.flush table.zap is.zap_rising)
 
@@ -194,10 +203,12 @@ module _ (P : Entry → Type 0) (Q : Change → Type 0) (entry_of : (entry : Ent
   pub every_found : (table : TableState) → AllByRecursion P table.zap → AllByRecursion Q table.flush → AllByRecursion Q table.active → AllByRecursion P (entries_found table)
   every_found table zap flush active = every_log table.active (fold set_found table.zap table.flush) active (every_log table.flush table.zap flush zap)
 
+-- what holds of both classes holds of the stored table
 pub every_class : (P : Entry → Type 0) (more es : List Entry) → AllByRecursion P more → AllByRecursion P es → AllByRecursion P (fold (λ entries entry. set_entry entry entries) es more)
 every_class P [] es each there = there
 every_class P (entry ∷ more) es each there = every_class P more (set_entry entry es) each.1 (every_set P entry es each.0 there)
 
+-- what holds of each change and of a new one holds once it is set
 every_set_change : (Q : Change → Type 0) (c : Change) (log : List Change) → Q c → AllByRecursion Q log → AllByRecursion Q (set_change c log)
 every_set_change Q c [] here each = (here, tt)
 every_set_change Q c (d ∷ log) here each =
@@ -205,9 +216,11 @@ every_set_change Q c (d ∷ log) here each =
     elim (key_cmp (key_in c) (key_in d)) as (λ o. AllByRecursion Q (if is_lt o then c ∷ d ∷ log else (if is_eq o then c ∷ log else d ∷ set_change c log)))
     [ Less ↦ (here, each) | Equal ↦ (here, each.1) | Greater ↦ (each.0, rest) ]
 
+-- what holds of each change of a log holds of the last ones
 every_last_from : (Q : Change → Type 0) (log sorted : List Change) → AllByRecursion Q log → AllByRecursion Q sorted → AllByRecursion Q (fold (λ sorted change. set_change change sorted) sorted log)
 every_last_from Q [] sorted each there = there
 every_last_from Q (c ∷ log) sorted each there = every_last_from Q log (set_change c sorted) each.1 (every_set_change Q c sorted each.0 there)
 
+-- the same from nothing on
 pub every_last : (Q : Change → Type 0) (log : List Change) → AllByRecursion Q log → AllByRecursion Q (last_changes log)
 every_last Q log each = every_last_from Q log [] each tt

@@ -44,6 +44,7 @@ record IsMarkOf (home : Home) (place birth : ℕ) (mark : Mark) : Type 0 where
   birth_is : birth ≡ home.birth
   since_is : since_of mark ≡ home.since
 
+-- a tracked mark says a home that counts
 marked_by : (home : Home) (place birth : ℕ) → is_tracked (mark_by (Some home) place birth) ≡ true → IsMarkOf home place birth (mark_by (Some home) place birth)
 marked_by home place birth is = by_test (nat_lt 0 home.count && (home.place == place) && (home.birth == birth)) refl is
   where
@@ -88,6 +89,7 @@ count_spots key (p ∷ ps) =
     elim (tracks key p) as (λ b. length (cond b (spot_in p ∷ filter (counts_for key) (map spot_in ps)) (filter (counts_for key) (map spot_in ps))) ≡ length (cond b (p ∷ filter (tracks key) ps) (filter (tracks key) ps)))
     [ true ↦ omega (arith, rest) | false ↦ rest ]
 
+-- the same by a count
 count_at-is : (key : Key) (ps : List Pointer) → count_by (counts_for key) (map spot_in ps) ≡ length (filter (tracks key) ps)
 count_at-is key ps = sym (length-filter (counts_for key) (map spot_in ps)) ∙ count_spots key ps
 
@@ -107,12 +109,15 @@ none_at table key ps known never =
     by_test p is false tracked_is = tracked_is
     by_test p is true tracked_is = let at = home_at table key p is tracked_is in absurd (never at.0.home at.1 at.0.is_counted)
 
+-- a home of these fields
 abbrev home_by : (place birth since count : ℕ) → Home
 home_by place birth since count = record { place = place; birth = birth; since = since; count = count }
 
+-- homes of equal fields are one
 same_fields : (p p' b b' s s' c c' : ℕ) → p ≡ p' → b ≡ b' → s ≡ s' → c ≡ c' → Some (home_by p' b' s' c') ≡ Some (home_by p b s c)
 same_fields p p' b b' s s' c c' is_place is_birth is_since is_count = cc
 
+-- a home has its fields
 same_home : (home : Home) (place birth since count : ℕ) → place ≡ home.place → birth ≡ home.birth → since ≡ home.since → count ≡ home.count → Some home ≡ Some (home_by place birth since count)
 same_home home place birth since count is_place is_birth is_since is_count = same_fields place home.place birth home.birth since home.since count home.count is_place is_birth is_since is_count
 
@@ -122,11 +127,13 @@ record Shares (home : Home) (p : Pointer) : Type 0 where
   birth : p.birth ≡ home.birth
   since : since_of p.mark ≡ home.since
 
+-- pointers that share a home, as many as it counts, give it
 home_of-all : (home : Home) (ps : List Pointer) → AllByRecursion (Shares home) ps → length ps ≡ home.count → 0 < home.count → Some home ≡ home_of_pointers ps
 home_of-all home [] each count some = absurd (omega arith)
 home_of-all home (p ∷ ps) each count some = same_home home p.place p.birth (since_of p.mark) (length (p ∷ ps)) each.0.place each.0.birth each.0.since count
 
-same_option : (a b : Home) → Some a ≡ Some b → a ≡ b
+-- equal homes
+pub same_option : (a b : Home) → Some a ≡ Some b → a ≡ b
 same_option a b same = cc
 
 module _ (pool : Pool) (table : TableState) (is : IsTable table) (known : AllByRecursion (IsKnown table) pool.pointers) where

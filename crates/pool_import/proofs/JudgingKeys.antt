@@ -5,7 +5,7 @@ use Rattle.std.specs.List.{AllByRecursion, find}
 use Rattle.std.specs.Option.{option_map}
 use Rattle.std.specs.Ordering.{is_eq, is_lt, ordering_reverse}
 use Rattle.std.specs.declared.cmp.Ordering.TheVariants.{Less, Equal, Greater}
-use Rattle.std.proofs.lemmas.Option.{get_or_from_slice_get}
+use Rattle.std.proofs.lemmas.Option.{get_or_from_slice_get, slice_get-get_or}
 use Rattle.std.proofs.lemmas.List.{take_more, at_drop_more, length-take, get_or_read}
 use Rattle.std.proofs.lemmas.List.Sums.{count_by_more_yes, count_by_more_no, count_by-le-length}
 use Rattle.ddt_entry.specs.Keys.{key_cmp, key_eq}
@@ -35,14 +35,17 @@ before_at [] at d rising within = absurd (omega arith)
 before_at (f ∷ fs) zero d rising within = tt
 before_at (f ∷ fs) (suc at) d rising within = (every_get (IsBefore f) fs at d rising.0 (omega arith), before_at fs at d rising.1 (omega arith))
 
+-- and those behind it of later ones
 behind_at : (es : List Entry) (at : ℕ) (d : Entry) → AreRising es → at < length es → AllByRecursion (IsBefore (get_or es at d)) (drop (suc at) es)
 behind_at [] at d rising within = absurd (omega arith)
 behind_at (f ∷ fs) zero d rising within = rising.0
 behind_at (f ∷ fs) (suc at) d rising within = behind_at fs at d rising.1 (omega arith)
 
+-- an entry of an earlier key
 abbrev IsBelow : Key → Entry → Type 0
 IsBelow key e = is_lt (key_cmp e.key key) ≡ true
 
+-- an entry of a later key
 abbrev IsAbove : Key → Entry → Type 0
 IsAbove key e = is_lt (key_cmp key e.key) ≡ true
 
@@ -65,6 +68,7 @@ all_above es at d key rising within greater =
           (every_weaker (IsBefore (get_or es at d)) (IsAbove key) (λ x later. earlier_yet key (get_or es at d).key x.key first later) (drop (suc at) es) (behind_at es at d rising within)),
     )
 
+-- what holds of each of the front and of the rest holds of each
 every_joined : {X : Type 0} (P : X → Type 0) (n : ℕ) (xs : List X) → AllByRecursion P (take n xs) → AllByRecursion P (drop n xs) → AllByRecursion P xs
 every_joined P n [] front back = tt
 every_joined P zero (x ∷ xs) front back = back
@@ -78,21 +82,18 @@ none_of_key es low high key met below above =
     (subst (λ n. AllByRecursion (λ (e : Entry). key_eq e.key key ≡ false) (drop n es)) (sym met)
     (every_weaker (IsAbove key) (λ e. key_eq e.key key ≡ false) (λ e more. key_eq-symm e.key key ∙ earlier_apart key e.key more) (drop high es) above))
 
-slice_get-at : {X : Type 0} (xs : List X) (i : ℕ) (d : X) → i < length xs → slice_get xs i ≡ Some (get_or xs i d)
-slice_get-at [] i d within = absurd (omega arith)
-slice_get-at (x ∷ xs) zero d within = refl
-slice_get-at (x ∷ xs) (suc i) d within = slice_get-at xs i d (omega arith)
-
 -- an entry of the key was met
 pub met_at : (es : List Entry) (at : ℕ) (d : Entry) (key : Key) → at < length es → key_cmp (get_or es at d).key key ≡ Equal → (entry : Entry) × (slice_get es at ≡ Some entry) × (key_eq entry.key key ≡ true)
-met_at es at d key within tied = (get_or es at d, slice_get-at es at d within, sym (is_eq-key_cmp (get_or es at d).key key) ∙ ap is_eq tied)
+met_at es at d key within tied = (get_or es at d, slice_get-get_or es at d within, sym (is_eq-key_cmp (get_or es at d).key key) ∙ ap is_eq tied)
 
 -- ---- What is found
 
+-- nothing is found of a key that no entry has
 pub found_none : (es : List Entry) (key : Key) → AllByRecursion (λ e. key_eq e.key key ≡ false) es → entry_at key es ≡ None
 found_none [] key each = refl
 found_none (f ∷ fs) key each = ap (λ b. option_map (λ (x : Entry). x.home) (cond b (Some f) (find (λ (x : Entry). key_eq x.key key) fs))) each.0 ∙ found_none fs key each.1
 
+-- the home of the entry of a key is found
 pub found_some : (es : List Entry) (at : ℕ) (e : Entry) (key : Key) → AreRising es → slice_get es at ≡ Some e → key_eq e.key key ≡ true → entry_at key es ≡ Some e.home
 found_some [] at e key rising there same = absurd (cc there)
 found_some (f ∷ fs) zero e key rising there same =
@@ -110,6 +111,7 @@ home_there es at d key rising there =
 
 -- ---- A count for each
 
+-- two functions that agree on each element
 same_map : {X Y : Type 0} (f g : X → Y) (xs : List X) → AllByRecursion (λ x. f x ≡ g x) xs → map f xs ≡ map g xs
 same_map f g [] each = refl
 same_map f g (x ∷ xs) each = ap (λ y. y ∷ map f xs) each.0 ∙ ap (λ l. g x ∷ l) (same_map f g xs each.1)
@@ -126,6 +128,7 @@ bumped f g (x ∷ xs) (suc at) e rising there more others =
     ap (λ n. n ∷ set (map f xs) at (get_or (map f xs) at 0 + 1)) (sym (others x (key_eq-symm e.key x.key ∙ earlier_apart x.key e.key (every_at (IsBefore x) xs at e rising.0 there))))
     ∙ ap (λ l. g x ∷ l) (bumped f g xs at e rising.1 there more others)
 
+-- how many slots are counted under the key of a home
 abbrev tally : List Spot → Entry → ℕ
 tally spots entry = count_by (counts_for entry.key) spots
 
@@ -137,9 +140,11 @@ tally_more spots i d e within = by_test (counts_for e.key (get_or spots i d)) re
     by_test true is = let more = count_by_more_yes (counts_for e.key) spots i d within is in omega (arith, more)
     by_test false is = let same = count_by_more_no (counts_for e.key) spots i d within is in omega (arith, same)
 
+-- a test that fails adds nothing
 adds_none : (n : ℕ) (b : Bool) → b ≡ false → n + cond b 1 0 ≡ n
 adds_none n b none = ap (λ x. n + cond x 1 0) none ∙ omega arith
 
+-- a test that fails with another
 and_none : (a b : Bool) → b ≡ false → (a && b) ≡ false
 and_none true b none = none
 and_none false b none = refl
@@ -202,6 +207,7 @@ no_tallies (x ∷ xs) spots = ap (λ l. 0 ∷ l) (no_tallies xs spots)
 
 -- ---- Spots
 
+-- the homes that a table finds tell what its search tells
 pub spots_among : (table : TableState) (slots : List SlotRecord) → IsTable table → map (spot_among (entries_found table)) slots ≡ map (spot_of table) slots
 spots_among table slots is =
     same_map (spot_among (entries_found table)) (spot_of table) slots

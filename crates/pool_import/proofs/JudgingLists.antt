@@ -11,6 +11,7 @@ every_at P [] i x each there = absurd (cc there)
 every_at P (y ∷ ys) zero x each there = let here : y ≡ x = cc in subst P here each.0
 every_at P (y ∷ ys) (suc i) x each there = every_at P ys i x each.1 there
 
+-- what follows of each
 pub every_weaker : {X : Type 0} (P Q : X → Type 0) → ((x : X) → P x → Q x) → (xs : List X) → AllByRecursion P xs → AllByRecursion Q xs
 every_weaker P Q weaker [] each = tt
 every_weaker P Q weaker (x ∷ xs) each = (weaker x each.0, every_weaker P Q weaker xs each.1)
@@ -20,18 +21,22 @@ pub every_both : {X : Type 0} (P Q R : X → Type 0) → ((x : X) → P x → Q 
 every_both P Q R both [] first second = tt
 every_both P Q R both (x ∷ xs) first second = (both x first.0 second.0, every_both P Q R both xs first.1 second.1)
 
+-- what holds of any holds of each
 pub every_of : {X : Type 0} (P : X → Type 0) → ((x : X) → P x) → (xs : List X) → AllByRecursion P xs
 every_of P holds [] = tt
 every_of P holds (x ∷ xs) = (holds x, every_of P holds xs)
 
+-- what holds of each image of a function
 pub every_map : {X Y : Type 0} (P : Y → Type 0) (f : X → Y) (xs : List X) → AllByRecursion (λ x. P (f x)) xs → AllByRecursion P (map f xs)
 every_map P f [] each = tt
 every_map P f (x ∷ xs) each = (each.0, every_map P f xs each.1)
 
+-- and back
 pub every_unmap : {X Y : Type 0} (P : Y → Type 0) (f : X → Y) (xs : List X) → AllByRecursion P (map f xs) → AllByRecursion (λ x. P (f x)) xs
 every_unmap P f [] each = tt
 every_unmap P f (x ∷ xs) each = (each.0, every_unmap P f xs each.1)
 
+-- what is kept of a list keeps what holds of each
 pub every_filter : {X : Type 0} (P : X → Type 0) (test : X → Bool) (xs : List X) → AllByRecursion P xs → AllByRecursion P (filter test xs)
 every_filter P test [] each = tt
 every_filter P test (x ∷ xs) each =
@@ -45,14 +50,10 @@ every_passed test (x ∷ xs) =
     let rest = every_passed test xs in
     elim (test x) as (λ b. (test x ≡ b) → AllByRecursion (λ x. test x ≡ true) (cond b (x ∷ filter test xs) (filter test xs))) [ true ↦ λ here. (here, rest) | false ↦ λ _. rest ] refl
 
+-- one element more
 pub every_push : {X : Type 0} (P : X → Type 0) (xs : List X) (x : X) → AllByRecursion P xs → P x → AllByRecursion P (xs ++ x ∷ [])
 every_push P [] x each here = (here, tt)
 every_push P (y ∷ ys) x each here = (each.0, every_push P ys x each.1 here)
-
--- what holds of a list's each element holds of its front's
-pub every_front : {X : Type 0} (P : X → Type 0) (xs ys : List X) → AllByRecursion P (xs ++ ys) → AllByRecursion P xs
-every_front P [] ys each = tt
-every_front P (x ∷ xs) ys each = (each.0, every_front P xs ys each.1)
 
 -- the relation between each earlier one and one that follows
 pub pairs_before : {X : Type 0} (R : X → X → Type 0) (xs : List X) (y : X) (ys : List X) → Pairwise R (xs ++ y ∷ ys) → AllByRecursion (λ x. R x y) xs
@@ -63,18 +64,22 @@ pairs_before R (x ∷ xs) y ys pairs = (middle xs pairs.0, pairs_before R xs y y
     middle [] each = each.0
     middle (z ∷ zs) each = middle zs each.1
 
+-- one element more, to which each earlier one is related
 pub pairs_push : {X : Type 0} (R : X → X → Type 0) (xs : List X) (y : X) → Pairwise R xs → AllByRecursion (λ x. R x y) xs → Pairwise R (xs ++ y ∷ [])
 pairs_push R [] y pairs each = (tt, tt)
 pairs_push R (x ∷ xs) y pairs each = (every_push (R x) xs y pairs.0 each.0, pairs_push R xs y pairs.1 each.1)
 
+-- a relation between images of a function
 pub pairs_map : {X Y : Type 0} (R : Y → Y → Type 0) (f : X → Y) (xs : List X) → Pairwise (λ a b. R (f a) (f b)) xs → Pairwise R (map f xs)
 pairs_map R f [] pairs = tt
 pairs_map R f (x ∷ xs) pairs = (every_map (R (f x)) f xs pairs.0, pairs_map R f xs pairs.1)
 
+-- and back
 pub pairs_unmap : {X Y : Type 0} (R : Y → Y → Type 0) (f : X → Y) (xs : List X) → Pairwise R (map f xs) → Pairwise (λ a b. R (f a) (f b)) xs
 pairs_unmap R f [] pairs = tt
 pairs_unmap R f (x ∷ xs) pairs = (every_unmap (R (f x)) f xs pairs.0, pairs_unmap R f xs pairs.1)
 
+-- what is kept of a list keeps the relation
 pub pairs_filter : {X : Type 0} (R : X → X → Type 0) (test : X → Bool) (xs : List X) → Pairwise R xs → Pairwise R (filter test xs)
 pairs_filter R test [] pairs = tt
 pairs_filter R test (x ∷ xs) pairs =
@@ -112,6 +117,7 @@ pub list_all-each : {X : Type 0} (test : X → Bool) (xs : List X) → list_all 
 list_all-each test [] passed = tt
 list_all-each test (x ∷ xs) passed = let parts = and_parts (test x) (list_all test xs) passed in (parts.0, list_all-each test xs parts.1)
 
+-- and back
 pub each-list_all : {X : Type 0} (test : X → Bool) (xs : List X) → AllByRecursion (λ x. test x ≡ true) xs → list_all test xs ≡ true
 each-list_all test [] each = refl
 each-list_all test (x ∷ xs) each = ap (λ b. b && list_all test xs) each.0 ∙ each-list_all test xs each.1

@@ -21,17 +21,20 @@ record Shared (a b : Spot) : Type 0 where
   second : b.tracked ≡ true
   key : a.key ≡ b.key
 
+-- three tests that hold
 and_of : (x y z : Bool) → x && y && z ≡ true → (x ≡ true) × (y ≡ true) × (z ≡ true)
 and_of true true true all = (refl, refl, refl)
 and_of true true false all = absurd (cc all)
 and_of true false z all = absurd (cc all)
 and_of false y z all = absurd (cc all)
 
+-- what the test of sharing says
 shared_of : (a b : Spot) → are_shared a b ≡ true → Shared a b
 shared_of a b shared =
     let parts = and_of a.tracked b.tracked (key_eq a.key b.key) shared in
     record { first = parts.0; second = parts.1; key = key_eq-true a.key b.key parts.2 }
 
+-- and back
 shared_from : (a b : Spot) → Shared a b → are_shared a b ≡ true
 shared_from a b shared =
     ap (λ x. x && b.tracked && key_eq a.key b.key) shared.first
@@ -52,18 +55,22 @@ shared_both o a b first second =
 abbrev Lies : ℕ → Spot → Type 0
 Lies s y = (y.place == s) ≡ true
 
+-- one that lies at a sector is its owner, or shares with it
 abbrev IsOf : ℕ → Spot → Spot → Type 0
 IsOf s o y = (y.place == s) ≡ true → (y ≡ o) ⊎ (are_shared o y ≡ true)
 
+-- the owner of a sector, by its number
 data Owner (done : List Spot) (s : ℕ) : ℕ → Type 0 where
   none : AllByRecursion (λ (y : Spot). (y.place == s) ≡ false) done → Owner done s 0
   some : (i : ℕ) (o : Spot) → slice_get done i ≡ Some o → Lies s o → AllByRecursion (IsOf s o) done → Owner done s (i + 1)
 
+-- an element of a front
 slice_get-front : {X : Type 0} (xs ys : List X) (i : ℕ) (x : X) → slice_get xs i ≡ Some x → slice_get (xs ++ ys) i ≡ Some x
 slice_get-front [] ys i x there = absurd (cc there)
 slice_get-front (z ∷ xs) ys zero x there = there
 slice_get-front (z ∷ xs) ys (suc i) x there = slice_get-front xs ys i x there
 
+-- the element at the end
 slice_get-last : {X : Type 0} (xs : List X) (x : X) → slice_get (xs ++ x ∷ []) (length xs) ≡ Some x
 slice_get-last [] x = refl
 slice_get-last (z ∷ xs) x = slice_get-last xs x
@@ -89,11 +96,13 @@ owner_new done s x lies each =
 record Owners (done : List Spot) (owners : List ℕ) : Type 0 where
   each : (s : ℕ) → s < length owners → Owner done s (get_or owners s 0)
 
+-- one goes with another
 abbrev IsApartFrom : Spot → Spot → Type 0
 IsApartFrom x y = go_apart y x ≡ true
 
 -- ---- One step
 
+-- one that lies elsewhere goes with it
 elsewhere_apart : (s : ℕ) (x y : Spot) → x.place ≡ s → (y.place == s) ≡ false → go_apart y x ≡ true
 elsewhere_apart s x y here elsewhere =
     let differ : (y.place == x.place) ≡ false = ap (λ n. y.place == n) here ∙ elsewhere in
@@ -103,6 +112,7 @@ elsewhere_apart s x y here elsewhere =
     or_true true = refl
     or_true false = refl
 
+-- one test of two
 apart_by : (b c : Bool) → b ≡ true → (b || c) ≡ true
 apart_by b c is = ap (λ x. x || c) is
 
@@ -131,13 +141,16 @@ data Step (all done : List Spot) (at : ℕ) (owners : List ℕ) (x : Spot) (xs :
   goes : (next : List ℕ) → are_owned all at owners (x ∷ xs) ≡ are_owned all (at + 1) next xs → length next ≡ length owners → Owners (done ++ x ∷ []) next → AllByRecursion (IsApartFrom x) done → Step all done at owners x xs
   stops : are_owned all at owners (x ∷ xs) ≡ false → (AllByRecursion (IsApartFrom x) done → ⊥) → Step all done at owners x xs
 
+-- no owner
 is_zero : (n : ℕ) → n ≡ 0 → (n == 0) ≡ true
 is_zero n zero_is = eq-eqb n 0 zero_is
 
+-- an owner
 isnt_zero : (n i : ℕ) → n ≡ i + 1 → (n == 0) ≡ false
 isnt_zero n i more =
     ⊎_elim (λ here. absurd (omega (arith, here.1))) (λ other. other.0) (eqb_tells n 0)
 
+-- one step of the recursion
 step : (all done : List Spot) (at : ℕ) (owners : List ℕ) (x : Spot) (xs : List Spot) → all ≡ done ++ x ∷ xs → at ≡ length done → x.place < length owners → Owners done owners → Step all done at owners x xs
 step all done at owners x xs split here within inv = by_owner (get_or owners x.place 0) refl (inv.each x.place within)
   where
@@ -195,6 +208,7 @@ step all done at owners x xs split here within inv = by_owner (get_or owners x.p
 
 -- ---- The whole
 
+-- each two go together
 abbrev AreApart : List Spot → Type 0
 AreApart spots = Pairwise (λ a b. go_apart a b ≡ true) spots
 
@@ -206,6 +220,7 @@ record At (all done rest : List Spot) (at : ℕ) (owners : List ℕ) : Type 0 wh
   owners_are : Owners done owners
   apart : AreApart done
 
+-- where what is left begins after a step
 next_at : (all done : List Spot) (x : Spot) (xs : List Spot) (at : ℕ) (owners next : List ℕ) → At all done (x ∷ xs) at owners → length next ≡ length owners → Owners (done ++ x ∷ []) next → AllByRecursion (IsApartFrom x) done → At all (done ++ x ∷ []) xs (at + 1) next
 next_at all done x xs at owners next now same inv apart = record {
   split = now.split ∙ sym (append_assoc done (x ∷ []) xs);
@@ -215,6 +230,7 @@ next_at all done x xs at owners next now same inv apart = record {
   apart = pairs_push (λ a b. go_apart a b ≡ true) done x now.apart apart;
 }
 
+-- a test that passes says that each two go together
 sound : (rest all done : List Spot) (at : ℕ) (owners : List ℕ) → At all done rest at owners → are_owned all at owners rest ≡ true → AreApart all
 sound [] all done at owners now passed = subst AreApart (sym (now.split ∙ append-nil done)) now.apart
 sound (x ∷ xs) all done at owners now passed =
@@ -224,6 +240,7 @@ sound (x ∷ xs) all done at owners now passed =
     by_step again (goes next comes same inv apart) = again next (next_at all done x xs at owners next now same inv apart) (sym comes ∙ passed)
     by_step again (stops comes not_apart) = absurd (false≢true (sym comes ∙ passed))
 
+-- and where they do, it passes
 complete : (rest all done : List Spot) (at : ℕ) (owners : List ℕ) → At all done rest at owners → AreApart all → are_owned all at owners rest ≡ true
 complete [] all done at owners now pairs = refl
 complete (x ∷ xs) all done at owners now pairs =
@@ -247,5 +264,6 @@ first_at all n within = record {
 pub apart_if_owned : (all : List Spot) (n : ℕ) → AllByRecursion (λ (y : Spot). y.place < n) all → are_owned all 0 (replicate n 0) all ≡ true → AreApart all
 apart_if_owned all n within passed = sound all all [] 0 (replicate n 0) (first_at all n within) passed
 
+-- and are told by it
 pub owned_if_apart : (all : List Spot) (n : ℕ) → AllByRecursion (λ (y : Spot). y.place < n) all → AreApart all → are_owned all 0 (replicate n 0) all ≡ true
 owned_if_apart all n within pairs = complete all all [] 0 (replicate n 0) (first_at all n within) pairs

@@ -1,5 +1,5 @@
 -- Each two pointers of an image's pool go together exactly where they lie apart or share a home.
-use Rattle.std.proofs.Common.{◌≡◌, ◌≢◌, ℕ, ◌<◌, ◌≤◌, Bool, true, false, not, ◌&&◌, ◌||◌, ◌==◌, inl, inr, List, [], ◌∷◌, map, Some, refl, sym, ap, ⊎_elim, ◌∙◌, arith, eq-eqb}
+use Rattle.std.proofs.Common.{◌≡◌, ◌≢◌, ℕ, ◌<◌, ◌≤◌, Bool, true, false, not, ◌&&◌, ◌||◌, ◌==◌, inl, inr, List, [], ◌∷◌, map, refl, sym, ap, ⊎_elim, ◌∙◌, arith, eq-eqb}
 use Rattle.std.specs.Prelude.{nat_lt, nat_le}
 use Rattle.std.specs.List.{AllByRecursion}
 use Rattle.std.proofs.lemmas.Bool.{false≢true, and_parts, ltb-true, leb-true}
@@ -17,7 +17,7 @@ use Rattle.table_state.specs.SlotRecords.{is_slot}
 use Rattle.table_state.specs.declared.slot_record.SlotRecord.{SlotRecord}
 use Rattle.pool_import.specs.Marks.{spot_in, go_apart}
 use Rattle.pool_import.proofs.JudgingLists.{pairs_map, pairs_unmap, pairs_weaker, pairs_both}
-use Rattle.pool_import.proofs.JudgingHomes.{IsKnown}
+use Rattle.pool_import.proofs.JudgingHomes.{same_option, IsKnown}
 
 -- ---- Runs
 
@@ -37,6 +37,7 @@ apart_if place other n m one two differ = by_order (nat_lt place other) refl
     by_order true before = let lt : place < other = ltb-true place other before in inl (omega arith)
     by_order false behind = let ge : other ≤ place = grind (arith, nat_tests) in inr (omega arith)
 
+-- runs that are apart are two
 pub differ_if : (place other n m : ℕ) → n ≡ 1 → m ≡ 1 → IsApart place n other m → (place == other) ≡ false
 differ_if place other n m one two apart =
     ⊎_elim (λ here. absurd (⊎_elim {C = ⊥} (λ before. omega (arith, here.1)) (λ behind. omega (arith, here.1)) apart)) (λ differ. differ.0) (eqb_tells place other)
@@ -50,6 +51,7 @@ pub record IsRanged (sectors group : ℕ) (p : Pointer) : Type 0 where
   pub group_is : p.birth ≤ group
   pub run : run_length p.key ≡ 1
 
+-- a slot in its ranges makes such a pointer
 pub ranged_of : (sectors group : ℕ) (image : Image) (table : TableState) (slot : SlotRecord) → is_slot sectors group slot ≡ true → IsRanged sectors group (pointer_of image table slot)
 ranged_of sectors group image table slot is =
     let birth_most = and_parts _ (nat_le slot.pointer.birth group) is in
@@ -64,6 +66,7 @@ ranged_of sectors group image table slot is =
       run = one_sector slot.pointer.key len.1;
     }
 
+-- such a pointer lies within the disk
 pub within_of : (sectors group : ℕ) (p : Pointer) → IsRanged sectors group p → LiesWithin sectors group p
 within_of sectors group p ranged = record { start = ranged.start; end = let run = ranged.run in let on = ranged.on_disk in omega (arith, run, on); birth = ranged.group_is }
 
@@ -73,14 +76,12 @@ within_of sectors group p ranged = record { start = ranged.start; end = let run 
 slots_apart : (lane slot lane' slot' : ℕ) → (nat_lt lane lane' || ((lane == lane') && nat_lt slot slot')) ≡ true → ((lane' == lane) && (slot' == slot)) ≡ false
 slots_apart lane slot lane' slot' before = grind (arith, nat_tests)
 
+-- what the test of sharing says
 shared_parts : (p q : Pointer) → is_shared p q ≡ true → (is_tracked p.mark ≡ true) × (is_tracked q.mark ≡ true) × (p.key ≡ q.key)
 shared_parts p q shared =
     let outer = and_parts (is_tracked p.mark && is_tracked q.mark) (key_eq p.key q.key) shared in
     let inner = and_parts (is_tracked p.mark) (is_tracked q.mark) outer.0 in
     (inner.0, inner.1, key_eq-true p.key q.key outer.1)
-
-same_option : (a b : Home) → Some a ≡ Some b → a ≡ b
-same_option a b same = cc
 
 -- two that the table counts under one key share its home
 shares_home : (table : TableState) (p q : Pointer) → IsKnown table p → IsKnown table q → is_shared p q ≡ true → SharesHome p q
@@ -118,6 +119,7 @@ module _ (table : TableState) (sectors group : ℕ) (p q : Pointer) (one : IsSou
 
 -- ---- All pointers
 
+-- slots that rise are each another
 pub slots_differ : (image : Image) (table : TableState) (slots : List SlotRecord) → Pairwise (λ a b. stands_before a b ≡ true) slots → Pairwise (λ (p q : Pointer). is_at p.lane p.slot q ≡ false) (map (pointer_of image table) slots)
 slots_differ image table slots rising =
     pairs_map (λ (p q : Pointer). is_at p.lane p.slot q ≡ false) (pointer_of image table) slots
@@ -127,6 +129,7 @@ slots_differ image table slots rising =
     any [] = tt
     any (x ∷ xs) = (tt, any xs)
 
+-- pointers in other slots, each two of which lie apart or share, go together
 pub together_if_apart : (table : TableState) (sectors group : ℕ) (ps : List Pointer) → AllByRecursion (IsSound table sectors group) ps → Pairwise (λ (p q : Pointer). is_at p.lane p.slot q ≡ false) ps
     → Pairwise (λ a b. go_apart a b ≡ true) (map spot_in ps) → Pairwise GoTogether ps
 together_if_apart table sectors group ps sound slots apart_all =
@@ -135,6 +138,7 @@ together_if_apart table sectors group ps sound slots apart_all =
     (pairs_both (λ (p q : Pointer). is_at p.lane p.slot q ≡ false) (λ (p q : Pointer). go_apart (spot_in p) (spot_in q) ≡ true) (λ (p q : Pointer). (is_at p.lane p.slot q ≡ false) × (go_apart (spot_in p) (spot_in q) ≡ true))
     (λ p q one other. (one, other)) ps slots (pairs_unmap (λ a b. go_apart a b ≡ true) spot_in ps apart_all))
 
+-- and back
 pub apart_if_together : (table : TableState) (sectors group : ℕ) (ps : List Pointer) → AllByRecursion (IsSound table sectors group) ps → Pairwise GoTogether ps → Pairwise (λ a b. go_apart a b ≡ true) (map spot_in ps)
 apart_if_together table sectors group ps sound pairs =
     pairs_map (λ a b. go_apart a b ≡ true) spot_in ps

@@ -11,18 +11,22 @@ use Rattle.pool_import.proofs.JudgingLists.{every_weaker, every_both}
 
 -- ---- Marks
 
+-- marks leave the number of sectors
 pub length-marked : (places : List ℕ) (used : List Bool) → length (marked used places) ≡ length used
 length-marked [] used = refl
 length-marked (place ∷ places) used = length-marked places (set used place true) ∙ length-set used place true
 
+-- a test or one that holds
 or_true : (b : Bool) → (b || true) ≡ true
 or_true true = refl
 or_true false = refl
 
+-- a test or one that fails
 or_false : (b : Bool) → (b || false) ≡ b
 or_false true = refl
 or_false false = refl
 
+-- three tests, grouped anew
 or_swap : (a b c : Bool) → ((a || b) || c) ≡ (a || (b || c))
 or_swap true b c = refl
 or_swap false b c = refl
@@ -47,15 +51,19 @@ marked-at (place ∷ places) used s within =
 
 -- ---- Taking
 
+-- a place is not used
 abbrev IsFree : List Bool → ℕ → Type 0
 IsFree used place = get_or used place false ≡ false
 
+-- two places
 abbrev Differ : ℕ → ℕ → Type 0
 Differ a b = (a == b) ≡ false
 
+-- a place is on the disk
 abbrev IsIn : List Bool → ℕ → Type 0
 IsIn used place = place < length used
 
+-- places stay on the disk
 in_set : (used : List Bool) (place : ℕ) (places : List ℕ) → AllByRecursion (IsIn used) places → AllByRecursion (IsIn (set used place true)) places
 in_set used place places within = every_weaker (IsIn used) (IsIn (set used place true)) (λ q lt. omega (arith, lt, length-set used place true)) places within
 
@@ -63,7 +71,8 @@ in_set used place places within = every_weaker (IsIn used) (IsIn (set used place
 still_free : (used : List Bool) (place q : ℕ) → IsIn used q → IsFree used q → Differ place q → IsFree (set used place true) q
 still_free used place q within free differ = set_used used place q within ∙ ap (λ b. b || (place == q)) free ∙ differ
 
-or_none : (a b : Bool) → (a || b) ≡ false → (a ≡ false) × (b ≡ false)
+-- two tests that fail
+pub or_none : (a b : Bool) → (a || b) ≡ false → (a ≡ false) × (b ≡ false)
 or_none true b none = absurd (false≢true (sym none))
 or_none false b none = (refl, none)
 
@@ -87,9 +96,11 @@ pub record WasTaken (used : List Bool) (places : List ℕ) (after : List Bool) :
   pub differ : Pairwise Differ places
   pub used_then : after ≡ marked used places
 
+-- equal lists
 same_list : (a b : List Bool) → Some a ≡ Some b → a ≡ b
 same_list a b same = cc
 
+-- where all are taken, each was free and no two are one
 pub free_if_taken : (places : List ℕ) (used after : List Bool) → AllByRecursion (IsIn used) places → taken used places ≡ Some after → WasTaken used places after
 free_if_taken [] used after within is = record { free = tt; differ = tt; used_then = sym (same_list used after is) }
 free_if_taken (place ∷ places) used after within is =

@@ -24,7 +24,7 @@ use Rattle.pool_import.proofs.JudgingLists.{every_weaker, every_both, every_map,
 use Rattle.pool_import.proofs.JudgingFound.{every_found, every_class, every_last}
 use Rattle.pool_import.proofs.JudgingHomes.{IsKnown, known_of, homes_if_counted, counted_if_homes}
 use Rattle.pool_import.proofs.JudgingPairs.{one_sector, apart_if, differ_if, ranged_of, within_of, IsSound, slots_differ, together_if_apart, apart_if_together}
-use Rattle.pool_import.proofs.JudgingUsed.{length-marked, marked-at, taken_if_free, WasTaken, free_if_taken}
+use Rattle.pool_import.proofs.JudgingUsed.{or_none, length-marked, marked-at, taken_if_free, WasTaken, free_if_taken}
 use Rattle.pool_import.proofs.JudgingOwners.{apart_if_owned, owned_if_apart}
 
 -- ---- Lists
@@ -38,23 +38,22 @@ any_none test (x ∷ xs) none = by_test (test x) refl none (λ rest. any_none te
     by_test true is some again = absurd (false≢true (sym some))
     by_test false is rest again = (is, again rest)
 
+-- and back
 none_any : {X : Type 0} (test : X → Bool) (xs : List X) → AllByRecursion (λ x. test x ≡ false) xs → list_any test xs ≡ false
 none_any test [] each = refl
 none_any test (x ∷ xs) each = ap (λ b. b || list_any test xs) each.0 ∙ none_any test xs each.1
-
-or_none : (a b : Bool) → (a || b) ≡ false → (a ≡ false) × (b ≡ false)
-or_none true b none = absurd (false≢true (sym none))
-or_none false b none = (refl, none)
 
 -- the spots of a pool's pointers are those of the slots
 spots_are : (image : Image) (table : TableState) (slots : List SlotRecord) → map spot_in (map (pointer_of image table) slots) ≡ map (spot_of table) slots
 spots_are image table [] = refl
 spots_are image table (slot ∷ slots) = ap (λ l. spot_of table slot ∷ l) (spots_are image table slots)
 
+-- a test of images of a function
 any_map : {X Y : Type 0} (test : Y → Bool) (f : X → Y) (xs : List X) → list_any test (map f xs) ≡ list_any (λ x. test (f x)) xs
 any_map test f [] = refl
 any_map test f (x ∷ xs) = ap (λ b. test (f x) || b) (any_map test f xs)
 
+-- two tests that agree on each element
 any_same : {X : Type 0} (test other : X → Bool) (xs : List X) → AllByRecursion (λ x. test x ≡ other x) xs → list_any test xs ≡ list_any other xs
 any_same test other [] each = refl
 any_same test other (x ∷ xs) each = ap (λ b. b || list_any test xs) each.0 ∙ ap (λ b. other x || b) (any_same test other xs each.1)
@@ -63,6 +62,7 @@ any_same test other (x ∷ xs) each = ap (λ b. b || list_any test xs) each.0 �
 lies_in-one : (s place n : ℕ) → n ≡ 1 → (place == s) ≡ lies_in s place n
 lies_in-one s place n one = grind (arith, nat_tests)
 
+-- a test that fails
 unnot : (b : Bool) → not b ≡ true → b ≡ false
 unnot true is = absurd (false≢true is)
 unnot false is = refl
@@ -91,6 +91,7 @@ pub record Grounds (seal : Seal) (flat : Flat) : Type 0 where
 abbrev HasLength : Entry → Type 0
 HasLength entry = IsEntryLength (changes.Entry entry)
 
+-- each home that the table finds has such a place
 found_roomed : (seal : Seal) (flat : Flat) → Grounds seal flat → AllByRecursion (IsRoomed seal.sectors) (entries_found (table_in seal flat))
 found_roomed seal flat grounds =
     every_both (IsWithin seal.sectors seal.group) HasLength (IsRoomed seal.sectors)
