@@ -1,3 +1,6 @@
 pub mod Spelled
 pub mod Parts
 pub mod Whole
+pub mod Lengths
+pub mod Marks
+pub mod Judged

@@ -9,6 +9,11 @@
 
 mod changes;
 mod flat;
+mod judge;
+mod judge_counts;
+mod judge_keys;
+mod judge_places;
+mod marks;
 mod parts;
 mod records;
 mod slots;

@@ -1,0 +1,114 @@
+//! Whether the whole of an image keeps its rules.
+//!
+//! Each part of an image is well-formed by itself once it was read. Here the parts are held against each
+//! other: the seal's sums, the count of each home, and that no two blocks and no page share a sector,
+//! unless the table counts both under one key. No rule looks at a content, so that what is found holds of
+//! any image with these parts.
+
+ghost use Rattle.std.specs.Prelude.{◌≡◌, ◌≤◌, IfOk, IfSome, IfNone, true};
+ghost use Rattle.std.specs.List.{AllByRecursion};
+ghost use Rattle.disk_model.specs.Images.{Image};
+ghost use Rattle.pool_model.specs.Space.{used_sectors};
+ghost use Rattle.table_state.specs.Flat.{AreRising, HoldTogether, table_in, pool_in};
+ghost use Rattle.table_state.specs.SlotRecords.{is_slot};
+ghost use Rattle.table_state.specs.Tables.{IsTable, IsTableWithin};
+ghost use Rattle.pool_import.specs.Judged.{counts_hold, sectors_taken, judged};
+ghost use Rattle.pool_import.specs.Lengths.{HasLengths};
+ghost use Rattle.pool_import.specs.Whole.{IsWhole};
+
+use crate::flat::FlatImage;
+use crate::judge_counts::{are_counted, only_counted, sums_agree};
+use crate::judge_places::{are_clear, are_owned, mark_all, mark_spots, take_homes, with_ring};
+use crate::marks::{Spot, spots_of};
+use ddt_entry::Entry;
+use grant_book::SectorSet;
+use plain_table::PlainTable;
+use std::alloc::{AllocError, Global};
+use uber_ring::Seal;
+
+/// Whether the whole keeps its rules; where it does, which sectors are used. The error is want of memory.
+pub fn judge(
+    alloc: Global,
+    seal: &Seal,
+    flat: &FlatImage,
+    table: &PlainTable,
+) -> Result<Option<SectorSet>, AllocError>
+    requires ring { 32 ≤ seal.now.sectors }
+    requires together { HoldTogether seal.now flat.now }
+    requires slots { AllByRecursion (λ slot. is_slot seal.now.sectors seal.now.group slot ≡ true) flat.now.slots }
+    requires lengths { HasLengths flat.now }
+    requires sorted { IsTable (table_in seal.now flat.now) }
+    requires within { IsTableWithin seal.now.sectors seal.now.group (table_in seal.now flat.now) }
+    requires table { table.now ≡ table_in seal.now flat.now }
+    ensures whole { IfOk result (λ found. IfSome found (λ used. (image : Image) → IsWhole image seal.now flat.now
+        × (used ≡ used_sectors seal.now.sectors flat.now.named (pool_in image seal.now flat.now) (table_in seal.now flat.now)))) }
+    ensures broken { IfOk result (λ found. IfNone found ((image : Image) → IsWhole image seal.now flat.now → ⊥)) }
+{
+    judged(alloc, seal, flat, table)
+}
+
+/// The answer of all tests, one after another.
+fn judged(
+    alloc: Global,
+    seal: &Seal,
+    flat: &FlatImage,
+    table: &PlainTable,
+) -> Result<Option<SectorSet>, AllocError>
+    requires ring { 32 ≤ seal.now.sectors }
+    requires sorted { IsTable table.now }
+    ensures { IfOk result (λ found. found ≡ judged seal.now flat.now table.now) }
+{
+    let found = table.entries_found(alloc)?;
+    let known = spots_of(alloc, found.as_slice(), flat.slots.as_slice())?;
+    let spots = known.as_slice();
+    let homes = only_counted(found);
+    if !counts_hold(alloc, seal, homes.as_slice(), spots, flat.named.len())? {
+        return Ok(None);
+    }
+    sectors_taken(alloc, seal.sectors, flat.named.as_slice(), spots, table)
+}
+
+/// Whether the seal's sums and the homes' counts are right. The error is want of memory.
+fn counts_hold(
+    alloc: Global,
+    seal: &Seal,
+    homes: &[Entry],
+    spots: &[Spot],
+    pages: u64,
+) -> Result<bool, AllocError>
+    requires { AreRising homes.now }
+    ensures { IfOk result (λ holds. holds ≡ counts_hold seal.now homes.now spots.now pages) }
+{
+    if !sums_agree(seal, homes, pages) {
+        return Ok(false);
+    }
+    are_counted(alloc, homes, spots)
+}
+
+/// The sectors that are used, where no page, no two blocks and no home that waits share one. The error is
+/// want of memory.
+fn sectors_taken(
+    alloc: Global,
+    sectors: u64,
+    named: &[u64],
+    spots: &[Spot],
+    table: &PlainTable,
+) -> Result<Option<SectorSet>, AllocError>
+    requires { 32 ≤ sectors }
+    ensures { IfOk result (λ found. found ≡ sectors_taken sectors named.now spots.now table.now) }
+{
+    let mut used = with_ring(alloc, sectors)?;
+    mark_all(&mut used, named);
+    if !are_clear(&used, spots) {
+        return Ok(None);
+    }
+    if !are_owned(alloc, sectors, spots)? {
+        return Ok(None);
+    }
+    mark_spots(&mut used, spots);
+    let waiting = table.waiting(alloc)?;
+    if !take_homes(&mut used, waiting.as_slice()) {
+        return Ok(None);
+    }
+    Ok(Some(used))
+}
