@@ -1,3 +1,5 @@
 pub mod Spelled
 pub mod Parts
 pub mod Whole
+pub mod Together
+pub mod Lengths

@@ -14,9 +14,11 @@ mod records;
 mod slots;
 #[cfg(test)]
 mod tests;
+mod whole;
 
 pub use changes::{changes_of, entries_of};
 pub use flat::{FlatImage, read_flat};
 pub use parts::{read_changes, read_entries, read_slots};
 pub use records::read_records;
 pub use slots::slots_of;
+pub use whole::hold_together;
