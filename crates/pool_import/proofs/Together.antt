@@ -1,5 +1,5 @@
 -- The tests tell exactly which parts keep the rules together.
-use Rattle.std.proofs.Common.{◌≡◌, ◌≢◌, ℕ, ◌<◌, ◌≤◌, Bool, true, false, ◌&&◌, ◌||◌, ◌==◌, List, [], ◌∷◌, Option, Some, None, length, refl, arith, sym, ap, subst, ◌∙◌}
+use Rattle.std.proofs.Common.{◌≡◌, ℕ, ◌<◌, ◌≤◌, Bool, true, ◌&&◌, ◌||◌, ◌==◌, List, [], ◌∷◌, Option, Some, None, length, refl, arith, ap}
 use Rattle.std.specs.Prelude.{nat_le, nat_lt, is_none}
 use Rattle.std.specs.List.{AllByRecursion, list_all}
 use Rattle.std.specs.Bool.{Decides}
@@ -9,8 +9,6 @@ use Rattle.std.specs.declared.cmp.Ordering.TheVariants.{Less, Equal, Greater}
 use Rattle.std.proofs.lemmas.Bool.{leb-true, le-leb}
 use Rattle.std.proofs.lemmas.Bool.Decides.{nat_tests, Decides-and, Decides-ltb, Decides-eqb, Decides-like}
 use Rattle.ddt_entry.specs.Keys.{key_cmp}
-use Rattle.ddt_entry.specs.declared.key.Key.{Key}
-use Rattle.ddt_entry.specs.declared.entry.Home.{Home}
 use Rattle.ddt_entry.specs.declared.entry.Entry.{Entry}
 use Rattle.ddt_entry.specs.declared.entry.Change.{Change}
 use Rattle.ddt_entry.specs.declared.entry.Change.TheVariants as changes
@@ -20,7 +18,7 @@ use Rattle.pool_model.specs.Pool.{Pairwise}
 use Rattle.pool_model.specs.Table.{entry_at}
 use Rattle.table_state.specs.Flat.{Flat, IsWithin, IsChangeWithin, AreRising, HoldTogether, stands_before}
 use Rattle.table_state.specs.declared.slot_record.SlotRecord.{SlotRecord}
-use Rattle.pool_import.specs.Together.{is_within, is_change_within, follows, rises, has_lower_key, is_elsewhere, are_within, are_sorted, are_classes, are_counted, hold_together}
+use Rattle.pool_import.specs.Together.{is_within, is_change_within, rises, has_lower_key, is_elsewhere, are_within, are_sorted, are_classes, are_counted, hold_together}
 
 -- a test of each item
 all_decided : {X : Type 0} (p : X → Bool) (P : X → Type 0) → ((x : X) → Decides (p x) (P x)) → (xs : List X) → Decides (list_all p xs) (AllByRecursion P xs)

@@ -12,6 +12,7 @@ mod flat;
 mod parts;
 mod records;
 mod slots;
+mod tables;
 #[cfg(test)]
 mod tests;
 mod whole;
@@ -21,4 +22,5 @@ pub use flat::{FlatImage, read_flat};
 pub use parts::{read_changes, read_entries, read_slots};
 pub use records::read_records;
 pub use slots::slots_of;
+pub use tables::table_of;
 pub use whole::hold_together;
