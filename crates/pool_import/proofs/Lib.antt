@@ -1,3 +1,4 @@
 pub mod Readings
 pub mod Flats
 pub mod Together
+pub mod Ranges
