@@ -12,7 +12,7 @@ use Rattle.ddt_entry.specs.declared.record.Malformed.{Malformed}
 use Rattle.ddt_entry.specs.declared.entry.SlotKind.{SlotKind}
 use Rattle.table_state.specs.SlotRecords.{is_slot, slot_in, slot_of, slot_at, kind_said, kind_at}
 use Rattle.table_state.specs.declared.slot_record.SlotRecord.{SlotRecord}
-use Rattle.pool_import.specs.Lengths.{IsEntryLength, AreEntryLengths, AreChangeLengths}
+use Rattle.pool_import.specs.Lengths.{IsEntryLength}
 
 -- what holds of each item that a record spells
 all_spelled : {X Y : Type 0} (f : List ℕ → Y) (g : X → Y) (P : X → Type 0) → ((r : List ℕ) (x : X) → f r ≡ g x → P x) → (rs : List (List ℕ)) (xs : List X) → map f rs ≡ map g xs → AllByRecursion P xs
@@ -65,12 +65,12 @@ change_length bytes change same =
     length_said (is_key_length (fields_in bytes).key.len) ((fields_in bytes).kind == 1) (((fields_in bytes).kind == 2) && is_no_home (fields_in bytes).home) (fields_in bytes).key (fields_in bytes).home change refl same
 
 -- so the keys of entries that were read have a block's length
-pub entries_in_range : (records : List (List ℕ)) (entries : List Entry) → map change_in records ≡ map (λ entry. Ok (changes.Entry entry)) entries → AreEntryLengths entries
+pub entries_in_range : (records : List (List ℕ)) (entries : List Entry) → map change_in records ≡ map (λ entry. Ok (changes.Entry entry)) entries → AllByRecursion (λ entry. IsEntryLength (changes.Entry entry)) entries
 entries_in_range records entries same =
-    all_spelled change_in (λ entry. Ok (changes.Entry entry)) (λ entry. is_key_length entry.key.len ≡ true) (λ r entry e. change_length r (changes.Entry entry) e) records entries same
+    all_spelled change_in (λ entry. Ok (changes.Entry entry)) (λ entry. IsEntryLength (changes.Entry entry)) (λ r entry e. change_length r (changes.Entry entry) e) records entries same
 
 -- and of changes
-pub changes_in_range : (records : List (List ℕ)) (log : List Change) → map change_in records ≡ map Ok log → AreChangeLengths log
+pub changes_in_range : (records : List (List ℕ)) (log : List Change) → map change_in records ≡ map Ok log → AllByRecursion IsEntryLength log
 changes_in_range records log same = all_spelled change_in Ok IsEntryLength change_length records log same
 
 -- a list that was made of all records

@@ -3,3 +3,5 @@ pub mod Parts
 pub mod Whole
 pub mod Together
 pub mod Lengths
+pub mod Imports
+pub mod Faults
