@@ -9,6 +9,8 @@
 
 mod changes;
 mod flat;
+#[cfg(test)]
+mod import_tests;
 mod judge;
 mod made;
 mod parts;
