@@ -9,3 +9,9 @@ pub mod JudgingUsed
 pub mod JudgingWhole
 pub mod JudgingAnswers
 pub mod JudgingKeys
+pub mod Together
+pub mod Ranges
+pub mod Making
+pub mod Sealing
+pub mod Sounding
+pub mod Telling

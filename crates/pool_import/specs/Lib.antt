@@ -4,3 +4,6 @@ pub mod Whole
 pub mod Lengths
 pub mod Marks
 pub mod Judged
+pub mod Together
+pub mod Imports
+pub mod Faults

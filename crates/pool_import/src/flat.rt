@@ -1,7 +1,10 @@
-ghost use Rattle.std.specs.Prelude.{◌≡◌, ◌≤◌, ℕ, IfOk, IfSome, IsErrOf, slice_get};
+ghost use Rattle.std.specs.Prelude.{◌≡◌, ◌≤◌, ℕ, true, IfOk, IfSome, IsErrOf, slice_get};
+ghost use Rattle.std.specs.List.{AllByRecursion};
 ghost use Rattle.disk_model.specs.Faults.{Rose};
 ghost use Rattle.page_tree.specs.declared.fault.PageFault.TheVariants.{Damaged, ReadFault};
 ghost use Rattle.table_state.specs.Flat.{Flat, IsRead};
+ghost use Rattle.table_state.specs.SlotRecords.{is_slot};
+ghost use Rattle.pool_import.specs.Lengths.{HasLengths};
 
 use crate::parts::{read_changes, read_entries, read_slots};
 use disk_model::Disk;
@@ -62,6 +65,8 @@ pub fn read_flat<D: Disk>(
     seal: &Seal,
 ) -> Result<FlatImage, PageFault>
     ensures read { IfOk result (λ flat. IfSome (D.seen disk.now) (λ image. IsRead image seal.now flat)) }
+    ensures slots { IfOk result (λ flat. AllByRecursion (λ slot. is_slot seal.now.sectors seal.now.group slot ≡ true) flat.slots) }
+    ensures lengths { IfOk result (λ flat. HasLengths flat) }
     ensures damaged { (sector : ℕ) → IsErrOf result (Damaged sector) →
         IfSome (D.seen disk.now) (λ image. (flat : Flat) → IsRead image seal.now flat → ⊥) }
     ensures count { D.meter_faults meter.old ≤ D.meter_faults meter.new }

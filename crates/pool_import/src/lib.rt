@@ -9,19 +9,31 @@
 
 mod changes;
 mod flat;
+#[cfg(test)]
+mod import_tests;
 mod judge;
 mod judge_counts;
 mod judge_keys;
 mod judge_places;
+mod made;
 mod marks;
 mod parts;
+mod reader;
 mod records;
+mod sealed;
 mod slots;
+mod tables;
 #[cfg(test)]
 mod tests;
+mod whole;
 
 pub use changes::{changes_of, entries_of};
 pub use flat::{FlatImage, read_flat};
+pub use made::pool_of;
 pub use parts::{read_changes, read_entries, read_slots};
+pub use reader::import;
 pub use records::read_records;
+pub use sealed::{find_pool, sealed_pool};
 pub use slots::slots_of;
+pub use tables::table_of;
+pub use whole::hold_together;

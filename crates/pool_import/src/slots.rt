@@ -1,7 +1,7 @@
 ghost use Rattle.std.specs.Prelude.{◌≡◌, ℕ, true, map, Some, IfOk, IsErrOf};
-ghost use Rattle.std.specs.List.{list_any};
+ghost use Rattle.std.specs.List.{AllByRecursion, list_any};
 ghost use Rattle.page_tree.specs.declared.fault.PageFault.TheVariants.{Damaged, ReadFault};
-ghost use Rattle.table_state.specs.SlotRecords.{slot_in};
+ghost use Rattle.table_state.specs.SlotRecords.{is_slot, slot_in};
 ghost use Rattle.pool_import.specs.Spelled.{spells_no_slot};
 
 use page_tree::{PageFault, RecordList};
@@ -19,6 +19,7 @@ pub fn slots_of(
     group: u64,
 ) -> Result<SlotList, PageFault>
     ensures read { IfOk result (λ slots. map (slot_in sectors group) records.now.items ≡ map Some slots.items) }
+    ensures within { IfOk result (λ slots. AllByRecursion (λ slot. is_slot sectors group slot ≡ true) slots.items) }
     ensures damaged { (sector : ℕ) → IsErrOf result (Damaged sector) → (sector ≡ at) × (list_any (spells_no_slot sectors group) records.now.items ≡ true) }
     ensures reads { IsErrOf result ReadFault → ⊥ }
 {

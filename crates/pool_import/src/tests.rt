@@ -9,7 +9,7 @@ use table_state::{SlotRecord, new_seal, write_slot};
 use uber_ring::Seal;
 
 /// A key that differs from others in this byte.
-fn key(byte: u8) -> Key {
+pub fn key(byte: u8) -> Key {
     Key {
         digest: [byte; 32],
         len: 5,
@@ -17,7 +17,7 @@ fn key(byte: u8) -> Key {
 }
 
 /// An entry at this place with this count.
-fn entry(byte: u8, place: u64, count: u64) -> Entry {
+pub fn entry(byte: u8, place: u64, count: u64) -> Entry {
     Entry {
         key: key(byte),
         home: Home {
@@ -30,7 +30,7 @@ fn entry(byte: u8, place: u64, count: u64) -> Entry {
 }
 
 /// The slot of lane 2 that shares the block at place 100.
-const SLOT: SlotRecord = SlotRecord {
+pub const SLOT: SlotRecord = SlotRecord {
     lane: 2,
     slot: 7,
     pointer: Pointer {
@@ -45,7 +45,7 @@ const SLOT: SlotRecord = SlotRecord {
 };
 
 /// The 72 bytes of a change.
-fn spelled(rt: &impl Abort, change: &Change) -> [u8; 72] {
+pub fn spelled(rt: &impl Abort, change: &Change) -> [u8; 72] {
     let mut out = [0; 72];
     match change {
         Change::Entry(entry) => assert!(rt; entry.key.len == 5),
@@ -56,7 +56,7 @@ fn spelled(rt: &impl Abort, change: &Change) -> [u8; 72] {
 }
 
 /// Writes a chain of at most 56 records on one page.
-fn put(
+pub fn put(
     rt: &impl Abort,
     disk: &mut MemDisk,
     records: &[[u8; 72]],

@@ -1,0 +1,28 @@
+-- What makes a pool of parts that keep all rules.
+use Rattle.std.proofs.Common.{◌≡◌, ◌∙◌, ◌<◌, ℕ, Bool, List, Option, Some, length, map, get_or, sym, subst, arith}
+use Rattle.std.proofs.lemmas.List.{ext_get_or, get_or-map, length-map}
+use Rattle.std.specs.Prelude.{IfSome}
+use Rattle.disk_model.specs.Images.{Image}
+use Rattle.uber_ring.specs.declared.seal.Seal.{Seal}
+use Rattle.pool_model.specs.Space.{used_sectors}
+use Rattle.table_state.specs.Flat.{Flat, HoldTogether, table_in, pool_in}
+use Rattle.table_state.specs.Pools.{Held}
+use Rattle.pool_import.specs.Whole.{IsWhole}
+use Rattle.pool_import.specs.Imports.{IsMade, held_of}
+
+-- what was judged keeps all rules, and the pool is of it
+pub made_of : (tag : ℕ) (seal : Seal) (flat : Flat) (held : Held) (used : List Bool) (found : Option (List Bool)) → found ≡ Some used → HoldTogether seal flat
+    → IfSome found (λ sectors. (image : Image) → IsWhole image seal flat × (sectors ≡ used_sectors seal.sectors flat.named (pool_in image seal flat) (table_in seal flat)))
+    → held ≡ held_of tag seal flat used → IsMade tag seal flat held
+made_of tag seal flat held used found is together judged same =
+    let each : (image : Image) → IsWhole image seal flat × (used ≡ used_sectors seal.sectors flat.named (pool_in image seal flat) (table_in seal flat)) =
+        subst (λ (o : Option (List Bool)). IfSome o (λ sectors. (image : Image) → IsWhole image seal flat × (sectors ≡ used_sectors seal.sectors flat.named (pool_in image seal flat) (table_in seal flat)))) is judged in
+    record { used = used; together = together; whole = λ image. (each image).0; used_are = λ image. (each image).1; held_is = same }
+
+-- a list whose items are those of another, by a function
+pub mapped : {X : Type 0} (f : ℕ → X) (xs : List ℕ) (ys : List X) (default : X) → length ys ≡ length xs → ((i : ℕ) → i < length xs → get_or ys i default ≡ f (get_or xs i 0)) → ys ≡ map f xs
+mapped f xs ys default long each =
+    ext_get_or default ys (map f xs) (long ∙ sym (length-map xs f))
+    (λ i within.
+    let there : i < length xs = omega (arith, long, within) in
+    each i there ∙ sym (get_or-map f xs i 0 default there))

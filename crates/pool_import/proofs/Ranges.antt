@@ -1,0 +1,79 @@
+-- What records spell is in its ranges.
+use Rattle.std.proofs.Common.{◌≡◌, ◌≤◌, ◌∙◌, ◌++◌, Bool, true, false, not, cond, ◌&&◌, ◌==◌, ℕ, List, [], ◌∷◌, Option, Some, None, Result, Ok, Err, map, get_or, drop, length, refl, sym, ap, subst, append-nil}
+use Rattle.std.specs.List.{AllByRecursion}
+use Rattle.std.proofs.lemmas.List.{drop_all}
+use Rattle.ddt_entry.specs.Records.{is_key_length, is_no_home, malformed, change_in, fields_in}
+use Rattle.ddt_entry.specs.declared.key.Key.{Key}
+use Rattle.ddt_entry.specs.declared.entry.Home.{Home}
+use Rattle.ddt_entry.specs.declared.entry.Entry.{Entry}
+use Rattle.ddt_entry.specs.declared.entry.Change.{Change}
+use Rattle.ddt_entry.specs.declared.entry.Change.TheVariants as changes
+use Rattle.ddt_entry.specs.declared.record.Malformed.{Malformed}
+use Rattle.ddt_entry.specs.declared.entry.SlotKind.{SlotKind}
+use Rattle.table_state.specs.SlotRecords.{is_slot, slot_in, slot_of, slot_at, kind_said, kind_at}
+use Rattle.table_state.specs.declared.slot_record.SlotRecord.{SlotRecord}
+use Rattle.pool_import.specs.Lengths.{IsEntryLength}
+
+-- what holds of each item that a record spells
+all_spelled : {X Y : Type 0} (f : List ℕ → Y) (g : X → Y) (P : X → Type 0) → ((r : List ℕ) (x : X) → f r ≡ g x → P x) → (rs : List (List ℕ)) (xs : List X) → map f rs ≡ map g xs → AllByRecursion P xs
+all_spelled f g P each rs [] same = tt
+all_spelled f g P each [] (x ∷ xs) same = absurd (cc same)
+all_spelled f g P each (r ∷ rs) (x ∷ xs) same = (each r x (head_of same), all_spelled f g P each rs xs (tail_of same))
+  where
+    head_of : f r ∷ map f rs ≡ g x ∷ map g xs → f r ≡ g x
+    head_of e = ap (λ l. get_or l 0 (f r)) e
+
+    tail_of : f r ∷ map f rs ≡ g x ∷ map g xs → map f rs ≡ map g xs
+    tail_of e = ap (λ l. drop 1 l) e
+
+-- a record that was taken is in its ranges
+taken : (sectors group : ℕ) (b : Bool) (found slot : SlotRecord) → is_slot sectors group found ≡ b → cond b (Some found) None ≡ Some slot → is_slot sectors group slot ≡ true
+taken sectors group true found slot test same =
+    let one : found ≡ slot = cc in
+    subst (λ (s : SlotRecord). is_slot sectors group s ≡ true) one test
+taken sectors group false found slot test same = absurd (cc same)
+
+slot_taken : (sectors group : ℕ) (kind : Option SlotKind) (bytes : List ℕ) (slot : SlotRecord) → slot_of sectors group kind bytes ≡ Some slot → is_slot sectors group slot ≡ true
+slot_taken sectors group None bytes slot same = absurd (cc same)
+slot_taken sectors group (Some kind) bytes slot same = taken sectors group (is_slot sectors group (slot_at kind bytes)) (slot_at kind bytes) slot refl same
+
+-- so slots that were read are in their ranges
+pub slots_in_range : (sectors group : ℕ) (records : List (List ℕ)) (slots : List SlotRecord) → map (slot_in sectors group) records ≡ map Some slots → AllByRecursion (λ slot. is_slot sectors group slot ≡ true) slots
+slots_in_range sectors group records slots same =
+    all_spelled (slot_in sectors group) Some (λ slot. is_slot sectors group slot ≡ true)
+    (λ r slot e. slot_taken sectors group (kind_said (kind_at r)) r slot e) records slots same
+
+abbrev said : (long entry gone : Bool) → Key → Home → Result Change Malformed
+said long entry gone key home =
+    cond (not long) malformed (cond entry (Ok (changes.Entry (record { key = key; home = home }))) (cond gone (Ok (changes.Gone key)) malformed))
+
+abbrev key_said : Key → Result Change Malformed → Key
+key_said default (Ok (changes.Entry entry)) = entry.key
+key_said default (Ok (changes.Gone key)) = default
+key_said default (Err fault) = default
+
+-- a change that was said has a key of a block's length
+length_said : (long entry gone : Bool) (key : Key) (home : Home) (change : Change) → is_key_length key.len ≡ long → said long entry gone key home ≡ Ok change → IsEntryLength change
+length_said false entry gone key home change test same = absurd (cc same)
+length_said true entry gone key home (changes.Gone old) test same = tt
+length_said true true gone key home (changes.Entry found) test same = subst (λ (k : Key). is_key_length k.len ≡ true) (ap (key_said key) same) test
+length_said true false true key home (changes.Entry found) test same = absurd (cc same)
+length_said true false false key home (changes.Entry found) test same = absurd (cc same)
+
+change_length : (bytes : List ℕ) (change : Change) → change_in bytes ≡ Ok change → IsEntryLength change
+change_length bytes change same =
+    length_said (is_key_length (fields_in bytes).key.len) ((fields_in bytes).kind == 1) (((fields_in bytes).kind == 2) && is_no_home (fields_in bytes).home) (fields_in bytes).key (fields_in bytes).home change refl same
+
+-- so the keys of entries that were read have a block's length
+pub entries_in_range : (records : List (List ℕ)) (entries : List Entry) → map change_in records ≡ map (λ entry. Ok (changes.Entry entry)) entries → AllByRecursion (λ entry. IsEntryLength (changes.Entry entry)) entries
+entries_in_range records entries same =
+    all_spelled change_in (λ entry. Ok (changes.Entry entry)) (λ entry. IsEntryLength (changes.Entry entry)) (λ r entry e. change_length r (changes.Entry entry) e) records entries same
+
+-- and of changes
+pub changes_in_range : (records : List (List ℕ)) (log : List Change) → map change_in records ≡ map Ok log → AllByRecursion IsEntryLength log
+changes_in_range records log same = all_spelled change_in Ok IsEntryLength change_length records log same
+
+-- a list that was made of all records
+pub made_whole : {X Y : Type 0} (f : List ℕ → Y) (g : X → Y) (rs : List (List ℕ)) (xs : List X) (i : ℕ) → map g xs ++ map f (drop i rs) ≡ map f rs → length rs ≤ i → map f rs ≡ map g xs
+made_whole f g rs xs i so_far done =
+    sym so_far ∙ ap (λ l. map g xs ++ map f l) (drop_all i rs done) ∙ append-nil (map g xs)

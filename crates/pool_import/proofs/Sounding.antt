@@ -1,0 +1,57 @@
+-- The numbers of a pool in memory are in their ranges, whatever a disk tells.
+use Rattle.std.proofs.Common.{◌≡◌, ◌∙◌, ℕ, ◌≤◌, true, [], length, sym, ap, subst}
+use Rattle.std.specs.Prelude.{nat_le}
+use Rattle.std.specs.List.{AllByRecursion}
+use Rattle.std.proofs.lemmas.Bool.{and_parts, leb-true}
+use Rattle.std.proofs.lemmas.List.FromFn.{length-map-range_with_len}
+use Rattle.uber_ring.specs.declared.seal.Seal.{Seal}
+use Rattle.pool_model.specs.Space.{is_used}
+use Rattle.table_state.specs.SealForms.{is_formed, has_group, has_size, has_flags, has_modes, has_checkpoint, fewest_sectors, most_sectors, last_group}
+use Rattle.table_state.specs.SlotRecords.{is_slot}
+use Rattle.table_state.specs.Flat.{Flat, table_in, pool_in}
+use Rattle.table_state.specs.Pools.{Held}
+use Rattle.table_state.proofs.TableBack.{is_table_in, table_in_within}
+use Rattle.pool_import.specs.Imports.{IsMade, IsSound, held_of}
+
+-- what the form of a seal says of the pool's numbers
+pub record HasNumbers (disk_sectors : ℕ) (seal : Seal) : Type 0 where
+  pub first : 1 ≤ seal.group
+  pub last : seal.group ≤ last_group
+  pub enough : fewest_sectors ≤ seal.sectors
+  pub few : seal.sectors ≤ most_sectors
+  pub on_disk : seal.sectors ≤ disk_sectors
+
+pub numbers_of : (tag disk_sectors : ℕ) (seal : Seal) → is_formed tag disk_sectors seal ≡ true → HasNumbers disk_sectors seal
+numbers_of tag disk_sectors seal formed =
+    let with_modes = and_parts _ (has_checkpoint seal) formed in
+    let with_flags = and_parts _ (has_modes seal) with_modes.0 in
+    let with_size = and_parts _ (has_flags seal) with_flags.0 in
+    let with_group = and_parts _ (has_size disk_sectors seal) with_size.0 in
+    let group = and_parts (nat_le 1 seal.group) (nat_le seal.group last_group) (and_parts _ (has_group seal) with_group.0).1 in
+    let sizes = and_parts _ (nat_le seal.sectors disk_sectors) with_group.1 in
+    let size = and_parts (nat_le fewest_sectors seal.sectors) (nat_le seal.sectors most_sectors) sizes.0 in
+    record {
+      first = leb-true 1 seal.group group.0;
+      last = leb-true seal.group last_group group.1;
+      enough = leb-true fewest_sectors seal.sectors size.0;
+      few = leb-true seal.sectors most_sectors size.1;
+      on_disk = leb-true seal.sectors disk_sectors sizes.1;
+    }
+
+-- so a pool that was made under it is sound
+pub sound_of : (tag disk_sectors : ℕ) (seal : Seal) (flat : Flat) (held : Held) → is_formed tag disk_sectors seal ≡ true → AllByRecursion (λ slot. is_slot seal.sectors seal.group slot ≡ true) flat.slots → IsMade tag seal flat held → IsSound disk_sectors held
+sound_of tag disk_sectors seal flat held formed slots made =
+    let numbers : HasNumbers disk_sectors seal = numbers_of tag disk_sectors seal formed in
+    let sound : IsSound disk_sectors (held_of tag seal flat made.used) = record {
+      on_disk = numbers.on_disk;
+      enough = numbers.enough;
+      few = numbers.few;
+      first = numbers.first;
+      last = numbers.last;
+      used = ap length (made.used_are []) ∙ length-map-range_with_len (is_used flat.named (pool_in [] seal flat) (table_in seal flat)) 0 seal.sectors;
+      slots = slots;
+      slots_rising = made.together.slots_rising;
+      table_sorted = is_table_in seal flat made.together;
+      table_within = table_in_within seal flat made.together;
+    } in
+    subst (λ (h : Held). IsSound disk_sectors h) (sym made.held_is) sound

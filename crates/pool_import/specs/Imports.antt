@@ -1,0 +1,62 @@
+-- What makes a pool in memory of an image.
+use Rattle.std.specs.Prelude.{◌≡◌, ℕ, ◌≤◌, Bool, true, List, length}
+use Rattle.std.specs.List.{AllByRecursion}
+use Rattle.disk_model.specs.Images.{Image}
+use Rattle.uber_ring.specs.declared.seal.Seal.{Seal}
+use Rattle.pool_model.specs.Pool.{Pairwise}
+use Rattle.pool_model.specs.Space.{used_sectors}
+use Rattle.table_state.specs.SealForms.{is_formed, modes_in, quota_in, fewest_sectors, most_sectors, last_group}
+use Rattle.table_state.specs.SlotRecords.{is_slot}
+use Rattle.table_state.specs.Tables.{IsTable, IsTableWithin}
+use Rattle.table_state.specs.Flat.{Flat, IsRead, HoldTogether, table_in, pool_in, stands_before}
+use Rattle.table_state.specs.Pools.{Held}
+use Rattle.pool_import.specs.Whole.{IsWhole}
+
+-- an image has these parts under this seal, and they keep all rules
+pub record IsStanding (tag : ℕ) (image : Image) (seal : Seal) (flat : Flat) : Type 0 where
+  pub formed : is_formed tag (length image) seal ≡ true
+  pub read : IsRead image seal flat
+  pub together : HoldTogether seal flat
+  pub whole : IsWhole image seal flat
+
+-- what is kept in memory of a seal and its parts
+abbrev pub held_of : (tag : ℕ) → Seal → Flat → (used : List Bool) → Held
+held_of tag seal flat used = record {
+  slots = flat.slots;
+  table = table_in seal flat;
+  pages = flat.named;
+  used = used;
+  modes = modes_in seal;
+  quota = quota_in seal;
+  tag = tag;
+  group = seal.group;
+  sectors = seal.sectors;
+}
+
+-- a pool of parts that keep all rules, whatever stands in the blocks
+pub record IsMade (tag : ℕ) (seal : Seal) (flat : Flat) (held : Held) : Type 0 where
+  pub used : List Bool
+  pub together : HoldTogether seal flat
+  pub whole : (image : Image) → IsWhole image seal flat
+  pub used_are : (image : Image) → used ≡ used_sectors seal.sectors flat.named (pool_in image seal flat) (table_in seal flat)
+  pub held_is : held ≡ held_of tag seal flat used
+
+-- a pool of the parts that an image has under this seal
+pub record IsMadeOf (tag : ℕ) (image : Image) (seal : Seal) (held : Held) : Type 0 where
+  pub flat : Flat
+  pub formed : is_formed tag (length image) seal ≡ true
+  pub read : IsRead image seal flat
+  pub made : IsMade tag seal flat held
+
+-- the numbers of a pool in memory, on a disk of so many sectors, and the order of what it keeps
+pub record IsSound (disk_sectors : ℕ) (held : Held) : Type 0 where
+  pub on_disk : held.sectors ≤ disk_sectors
+  pub enough : fewest_sectors ≤ held.sectors
+  pub few : held.sectors ≤ most_sectors
+  pub first : 1 ≤ held.group
+  pub last : held.group ≤ last_group
+  pub used : length held.used ≡ held.sectors
+  pub slots : AllByRecursion (λ slot. is_slot held.sectors held.group slot ≡ true) held.slots
+  pub slots_rising : Pairwise (λ a b. stands_before a b ≡ true) held.slots
+  pub table_sorted : IsTable held.table
+  pub table_within : IsTableWithin held.sectors held.group held.table

@@ -1,0 +1,81 @@
+ghost use Rattle.std.specs.Prelude.{◌≡◌, ◌≤◌, true, map, IfOk, IfSome, IfNone};
+ghost use Rattle.std.specs.List.{AllByRecursion};
+ghost use Rattle.disk_model.specs.Images.{Image};
+ghost use Rattle.table_state.specs.SealForms.{modes_in, quota_in};
+ghost use Rattle.table_state.specs.Flat.{HoldTogether, table_in};
+ghost use Rattle.table_state.specs.SlotRecords.{is_slot};
+ghost use Rattle.pool_import.specs.Lengths.{HasLengths};
+ghost use Rattle.pool_import.specs.Whole.{IsWhole};
+ghost use Rattle.pool_import.specs.Imports.{IsMade, held_of};
+
+use crate::flat::FlatImage;
+use crate::judge::judge;
+use crate::tables::table_of;
+use crate::whole::hold_together;
+use grant_book::SectorSet;
+use plain_table::PlainTable;
+use pool_model::Mode;
+use std::alloc::{AllocError, Global};
+use table_state::{Pool, mode_of};
+use uber_ring::{Seal, seal_fits};
+
+/// The pool that a seal and its parts make, and `None` where they break a rule. The error is want of memory.
+pub fn pool_of(
+    alloc: Global,
+    seal: &Seal,
+    tag: u8,
+    flat: FlatImage,
+) -> Result<Option<Pool>, AllocError>
+    requires few { seal.now.sectors ≤ 1000000 }
+    requires enough { 2048 ≤ seal.now.sectors }
+    requires slots { AllByRecursion (λ slot. is_slot seal.now.sectors seal.now.group slot ≡ true) flat.slots }
+    requires lengths { HasLengths flat }
+    ensures made { IfOk result (λ found. IfSome found (IsMade tag seal.now flat)) }
+    ensures broken { IfOk result (λ found. IfNone found (HoldTogether seal.now flat → (image : Image) → IsWhole image seal.now flat → ⊥)) }
+{
+    if !hold_together(seal, &flat) {
+        return Ok(None);
+    }
+    let table = table_of(alloc, seal, &flat)?;
+    let Some(used) = judge(alloc, seal, &flat, &table)? else {
+        return Ok(None);
+    };
+    Ok(Some(assembled(seal, tag, flat, table, used)))
+}
+
+/// The pool of these parts with this table.
+fn assembled(seal: &Seal, tag: u8, flat: FlatImage, table: PlainTable, used: SectorSet) -> Pool
+    requires { table ≡ table_in seal.now flat }
+    ensures { result ≡ held_of tag seal.now flat used }
+{
+    Pool {
+        slots: flat.slots,
+        table,
+        pages: flat.named,
+        used,
+        modes: modes_of(seal),
+        limit: quota_of(seal),
+        tag,
+        sealed: seal.group,
+        sectors: seal.sectors,
+    }
+}
+
+/// The modes of the lanes.
+fn modes_of(seal: &Seal) -> [Mode; 16]
+    ensures { result ≡ modes_in seal.now }
+{
+    seal_fits(*seal);
+    seal.modes.map(|byte| mode_of(byte))
+}
+
+/// The quota, where there is one.
+fn quota_of(seal: &Seal) -> Option<u64>
+    ensures { result ≡ quota_in seal.now }
+{
+    if seal.quota_flag == 1 {
+        Some(seal.quota)
+    } else {
+        None
+    }
+}

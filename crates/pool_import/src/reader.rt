@@ -1,0 +1,67 @@
+ghost use Rattle.std.specs.Prelude.{◌≡◌, ◌≤◌, ℕ, IfOk, IfSome, IfNone, OnOk, IsErrOf};
+ghost use Rattle.disk_model.specs.Images.{Stays};
+ghost use Rattle.disk_model.specs.Crashes.{LeavesOnly, NothingPending};
+ghost use Rattle.disk_model.specs.Faults.{Rose};
+ghost use Rattle.pool_model.specs.Pool.{Pool as APool};
+ghost use Rattle.pool_model.specs.Table.{TableState};
+ghost use Rattle.pool_model.specs.declared.faults.SyncFault.TheVariants.{Damaged, ReadFault, WriteFault};
+ghost use Rattle.table_state.specs.Flat.{HasNoPool, IsDamaged};
+ghost use Rattle.table_state.specs.Pools.{IsHeld};
+ghost use Rattle.pool_import.specs.Imports.{IsSound};
+ghost use Rattle.pool_import.specs.Faults.{sync_fault_of, told_of};
+
+use crate::sealed::find_pool;
+use ddt_entry::KeyOf;
+use disk_model::{Disk, crash_laws};
+use page_tree::PageFault;
+use pool_model::SyncFault;
+use std::alloc::Global;
+use table_state::Pool;
+
+/// The pool that the newest sealed group left on a disk, for a key function, and `None` where there is none.
+/// `Damaged` comes only where the image stands for no pool of this key function; the error `Memory` is want of
+/// memory. Where it succeeds, all that was written to the disk before is made to last.
+pub fn import<D: Disk, K: KeyOf>(
+    alloc: Global,
+    disk: &mut D,
+    keyer: &K,
+) -> Result<Option<Pool>, SyncFault>
+    ensures sectors { D.sectors_of disk.new ≡ D.sectors_of disk.old }
+    ensures stays { Stays (D.seen disk.old) (D.seen disk.new) }
+    ensures none { IfOk result (λ found. IfNone found (IfSome (D.seen disk.old) HasNoPool)) }
+    ensures pool { IfOk result (λ found. IfSome found (λ held. (held.tag ≡ K.tag_of keyer.now) × IfSome (D.seen disk.old) (λ image.
+        (pool : APool) × (table : TableState) × IsHeld image held pool table))) }
+    ensures sound { IfOk result (λ found. IfSome found (IsSound (D.sectors_of disk.new))) }
+    ensures damaged { (sector : ℕ) → IsErrOf result (Damaged sector) → IfSome (D.seen disk.old) (IsDamaged (K.tag_of keyer.now)) }
+    ensures durable { OnOk result (NothingPending (D.seen disk.new) (D.may_leave disk.new)) }
+    ensures any_moment { LeavesOnly D.clock D.left_since disk.old disk.new (D.may_leave disk.old) }
+    ensures reads { D.read_faults disk.old ≤ D.read_faults disk.new }
+    ensures writes { D.write_faults disk.old ≤ D.write_faults disk.new }
+    ensures read_cause { IsErrOf result ReadFault → Rose (D.read_faults disk.old) (D.read_faults disk.new) }
+    ensures write_cause { IsErrOf result WriteFault → Rose (D.write_faults disk.old) (D.write_faults disk.new) }
+{
+    crash_laws(disk);
+    let tag = keyer.tag();
+    let Ok(mut meter) = disk.meter() else {
+        return Err(SyncFault::WriteFault);
+    };
+    let answer = find_pool(alloc, disk, &mut meter, tag);
+    disk.retire(meter);
+    let found = told(answer)?;
+    let Ok(()) = disk.barrier() else {
+        return Err(SyncFault::WriteFault);
+    };
+    Ok(found)
+}
+
+/// The same answer, with the fault that an import tells.
+fn told(answer: Result<Option<Pool>, PageFault>) -> Result<Option<Pool>, SyncFault>
+    ensures { result ≡ told_of answer }
+{
+    match answer {
+        Ok(found) => Ok(found),
+        Err(PageFault::ReadFault) => Err(SyncFault::ReadFault),
+        Err(PageFault::Damaged(sector)) => Err(SyncFault::Damaged(sector)),
+        Err(PageFault::Memory) => Err(SyncFault::Memory),
+    }
+}
