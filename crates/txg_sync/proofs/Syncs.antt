@@ -1,5 +1,5 @@
 -- What the plan of a group and its sealing come to, where the disk tells its contents and where it doesn't.
-use Rattle.std.proofs.Common.{◌≡◌, ◌≢◌, ℕ, ◌+◌, ◌^◌, ◌<◌, ◌≤◌, true, false, ◌==◌, List, [], ◌∷◌, ◌++◌, Option, Some, None, length, map, refl, sym, ap, subst, ◌∙◌, inl, inr, ⊎_elim, arith}
+use Rattle.std.proofs.Common.{◌≡◌, ◌≢◌, ℕ, zero, suc, get_or, ◌+◌, ◌^◌, ◌<◌, ◌≤◌, true, false, ◌==◌, List, [], ◌∷◌, ◌++◌, Option, Some, None, length, map, refl, sym, ap, subst, ◌∙◌, inl, inr, ⊎_elim, arith}
 use Rattle.std.specs.Prelude.{slice_index_or}
 use Rattle.std.specs.List.{AllByRecursion, list_any}
 use Rattle.std.proofs.lemmas.List.{length-map}
@@ -9,6 +9,8 @@ use Rattle.disk_model.proofs.Moments.{weakened}
 use Rattle.page_tree.specs.Chains.{AreOpen}
 use Rattle.uber_ring.specs.Ring.{slot_of, gate_sector, body_sector}
 use Rattle.uber_ring.specs.declared.seal.Seal.{Seal}
+use Rattle.pool_model.specs.declared.closed.StoredBlock.{StoredBlock}
+use Rattle.pool_model.specs.Plain.{Stored, stored_of}
 use Rattle.pool_model.specs.Pool.{Pool}
 use Rattle.pool_model.specs.Table.{TableState}
 use Rattle.table_state.specs.Flat.{StandsFor, flat_version}
@@ -89,3 +91,9 @@ module _ (held : Held) (group : Group) (sound : IsSound held) (next : Held) (par
       pub while_syncing : {D : Type 0} (clock : D → ℕ) (left_since : D → ℕ → Image → Type 0) (old new : D) → LeavesOnly clock left_since old new (MayBeSealed (slot_of seal.group) group.contents parts (with_roots seal parts) image) → LeavesOnly clock left_since old new (SyncLeaves image held group pool table)
       while_syncing clock left_since old new run =
           weakened clock left_since old new (MayBeSealed (slot_of seal.group) group.contents parts (with_roots seal parts) image) (SyncLeaves image held group pool table) run leaves_of
+
+-- what holds of each stored block holds at each index of the blocks
+pub stored_at : (Q : Stored → Type 0) (contents : List StoredBlock) → AllByRecursion Q (map stored_of contents) → (k : ℕ) (d : StoredBlock) → k < length contents → Q (stored_of (get_or contents k d))
+stored_at Q [] all k d within = absurd (omega (arith, within))
+stored_at Q (s ∷ contents) all zero d within = all.0
+stored_at Q (s ∷ contents) all (suc k) d within = stored_at Q contents all.1 k d (omega (arith, within))

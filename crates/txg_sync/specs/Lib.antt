@@ -3,3 +3,4 @@ pub mod Writing
 pub mod Planning
 pub mod Syncing
 pub mod Placing
+pub mod SyncFaults

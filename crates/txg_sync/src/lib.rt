@@ -21,6 +21,7 @@ mod part;
 mod places;
 mod planning;
 mod store;
+mod syncing;
 mod take;
 #[cfg(test)]
 mod tests;
@@ -38,5 +39,6 @@ pub use part::ChainPages;
 pub use places::place_chains;
 pub use planning::{Plan, plan_group};
 pub use store::{store_group, write_blocks, write_parts};
+pub use syncing::sync;
 pub use take::take_slot;
 pub use used::used_after;

@@ -1,0 +1,114 @@
+ghost use Rattle.std.specs.Prelude.{◌≡◌, ◌≤◌, ◌+◌, ℕ, Some, None, IfOk, OnOk, OnErr, IsErrOf};
+ghost use Rattle.disk_model.specs.Images.{Image};
+ghost use Rattle.disk_model.specs.Crashes.{LeavesOnly, NothingPending};
+ghost use Rattle.disk_model.specs.Faults.{Rose};
+ghost use Rattle.pool_model.specs.Pool.{Pool as APool};
+ghost use Rattle.pool_model.specs.Table.{TableState};
+ghost use Rattle.pool_model.specs.declared.faults.SyncFault.TheVariants.{ReadFault, WriteFault, Damaged, Memory};
+ghost use Rattle.table_state.specs.Pools.{IsHeld};
+ghost use Rattle.table_state.specs.SealForms.{last_group};
+ghost use Rattle.table_state.specs.Sound.{IsSound};
+ghost use Rattle.txg_sync.specs.Planning.{group_in, IsPlan};
+ghost use Rattle.txg_sync.specs.SyncFaults.{sync_fault_of};
+ghost use Rattle.txg_sync.specs.Syncing.{IsInRange, CanSync, CanSyncOver, SyncLeaves, Syncs};
+
+use crate::fault::SealFault;
+use crate::fits::{slots_fit, table_fits};
+use crate::group::seal_group;
+use crate::planning::{Plan, plan_group};
+use disk_model::{Disk, crash_laws};
+use pool_model::{Closed, SyncFault};
+use std::alloc::Global;
+use table_state::Pool;
+
+/// Syncs a group that was closed, behind the newest sealed one: plans it, and seals it. Answers the number of
+/// the group, of which `pool` is the pool from then on; after a fault `pool` is as it was, and what the disk
+/// holds is to be imported again. `Memory` and `Damaged` come before anything is written; `Damaged` comes only over
+/// a disk that doesn't tell its contents, where fewer sectors are free than the group's pages need.
+pub fn sync<D: Disk>(
+    alloc: Global,
+    pool: &mut Pool,
+    disk: &mut D,
+    closed: &Closed,
+) -> Result<u64, SyncFault>
+    requires sound { IsSound pool.old }
+    requires range { IsInRange pool.old (group_in closed.now) }
+    requires last { pool.old.group + 1 ≤ last_group }
+    requires on_disk { pool.old.sectors ≤ D.sectors_of disk.old }
+    requires over { CanSyncOver (D.seen disk.old) pool.old (group_in closed.now) }
+    ensures sectors { D.sectors_of disk.new ≡ D.sectors_of disk.old }
+    ensures number { IfOk result (λ number. (number ≡ pool.old.group + 1) × (number ≡ pool.new.group)) }
+    ensures synced { OnOk result (Syncs (D.seen disk.old) pool.old (group_in closed.now) pool.new (D.seen disk.new)) }
+    ensures next { OnOk result (IsSound pool.new) }
+    ensures kept { OnErr result (pool.new ≡ pool.old) }
+    ensures durable { OnOk result (NothingPending (D.seen disk.new) (D.may_leave disk.new)) }
+    ensures any_moment { (image : Image) (before : APool) (table : TableState) → D.seen disk.old ≡ Some image → NothingPending (Some image) (D.may_leave disk.old)
+        → IsHeld image pool.old before table → LeavesOnly D.clock D.left_since disk.old disk.new (SyncLeaves image pool.old (group_in closed.now) before table) }
+    ensures unwritten { IsErrOf result Memory → disk.new ≡ disk.old }
+    ensures damaged { (sector : ℕ) → IsErrOf result (Damaged sector) → (disk.new ≡ disk.old) × (D.seen disk.old ≡ None) }
+    ensures reads { D.read_faults disk.old ≤ D.read_faults disk.new }
+    ensures writes { D.write_faults disk.old ≤ D.write_faults disk.new }
+    ensures read_cause { IsErrOf result ReadFault → Rose (D.read_faults disk.old) (D.read_faults disk.new) }
+    ensures write_cause { IsErrOf result WriteFault → Rose (D.write_faults disk.old) (D.write_faults disk.new) }
+{
+    crash_laws(disk);
+    let _sectors = disk.sectors();
+    let Ok(planned) = plan_group(alloc, pool, closed) else {
+        return Err(SyncFault::Memory);
+    };
+    let Some(planned) = planned else {
+        return Err(SyncFault::Damaged(0));
+    };
+    write_plan(pool, disk, closed, planned)
+}
+
+/// Writes what was planned.
+fn write_plan<D: Disk>(
+    pool: &mut Pool,
+    disk: &mut D,
+    closed: &Closed,
+    planned: Plan,
+) -> Result<u64, SyncFault>
+    requires sound { IsSound pool.old }
+    requires range { IsInRange pool.old (group_in closed.now) }
+    requires last { pool.old.group + 1 ≤ last_group }
+    requires on_disk { pool.old.sectors ≤ D.sectors_of disk.old }
+    requires over { CanSyncOver (D.seen disk.old) pool.old (group_in closed.now) }
+    requires planned { IsPlan pool.old (group_in closed.now) planned.next planned.parts.items planned.seal }
+    ensures sectors { D.sectors_of disk.new ≡ D.sectors_of disk.old }
+    ensures number { IfOk result (λ number. (number ≡ pool.old.group + 1) × (number ≡ pool.new.group)) }
+    ensures synced { OnOk result (Syncs (D.seen disk.old) pool.old (group_in closed.now) pool.new (D.seen disk.new)) }
+    ensures next { OnOk result (IsSound pool.new) }
+    ensures kept { OnErr result (pool.new ≡ pool.old) }
+    ensures durable { OnOk result (NothingPending (D.seen disk.new) (D.may_leave disk.new)) }
+    ensures any_moment { (image : Image) (before : APool) (table : TableState) → D.seen disk.old ≡ Some image → NothingPending (Some image) (D.may_leave disk.old)
+        → IsHeld image pool.old before table → LeavesOnly D.clock D.left_since disk.old disk.new (SyncLeaves image pool.old (group_in closed.now) before table) }
+    ensures device { IsErrOf result Memory → ⊥ }
+    ensures whole { (sector : ℕ) → IsErrOf result (Damaged sector) → ⊥ }
+    ensures reads { D.read_faults disk.old ≤ D.read_faults disk.new }
+    ensures writes { D.write_faults disk.old ≤ D.write_faults disk.new }
+    ensures read_cause { IsErrOf result ReadFault → Rose (D.read_faults disk.old) (D.read_faults disk.new) }
+    ensures write_cause { IsErrOf result WriteFault → Rose (D.write_faults disk.old) (D.write_faults disk.new) }
+{
+    let _sectors = disk.sectors();
+    let Plan { next, parts, seal } = planned;
+    slots_fit(next.slots.as_slice());
+    table_fits(&next.table);
+    let sealed = seal_group(disk, &seal, closed.contents.as_slice(), parts.as_slice());
+    if let Err(fault) = sealed {
+        return Err(told(fault));
+    }
+    let number = next.sealed;
+    *pool = next;
+    Ok(number)
+}
+
+/// The fault of a sync that a fault of its sealing is.
+fn told(fault: SealFault) -> SyncFault
+    ensures { result ≡ sync_fault_of fault }
+{
+    match fault {
+        SealFault::ReadFault => SyncFault::ReadFault,
+        SealFault::WriteFault => SyncFault::WriteFault,
+    }
+}
