@@ -16,7 +16,7 @@ pub made_of : (tag : ℕ) (seal : Seal) (flat : Flat) (held : Held) (used : List
     → held ≡ held_of tag seal flat used → IsMade tag seal flat held
 made_of tag seal flat held used found is together judged same =
     let each : (image : Image) → IsWhole image seal flat × (used ≡ used_sectors seal.sectors flat.named (pool_in image seal flat) (table_in seal flat)) =
-        subst (λ (o : Option (List Bool)). IfSome o (λ sectors. (image : Image) → IsWhole image seal flat × (sectors ≡ used_sectors seal.sectors flat.named (pool_in image seal flat) (table_in seal flat)))) is judged in
+    subst (λ (o : Option (List Bool)). IfSome o (λ sectors. (image : Image) → IsWhole image seal flat × (sectors ≡ used_sectors seal.sectors flat.named (pool_in image seal flat) (table_in seal flat)))) is judged in
     record { used = used; together = together; whole = λ image. (each image).0; used_are = λ image. (each image).1; held_is = same }
 
 -- a list whose items are those of another, by a function

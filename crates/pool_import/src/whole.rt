@@ -57,9 +57,7 @@ fn pages_within(named: &[u64], sectors: u64) -> bool
 fn entries_within(entries: &[Entry], sectors: u64, group: u64) -> bool
     ensures { result ≡ list_all (is_within sectors group) entries.now }
 {
-    entries
-        .iter()
-        .all(|entry| is_within(entry, sectors, group))
+    entries.iter().all(|entry| is_within(entry, sectors, group))
 }
 
 /// Whether the numbers of each change are in their ranges.
