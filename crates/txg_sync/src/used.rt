@@ -76,7 +76,13 @@ mod tests {
             },
         };
         let table = PlainTable::new(rt.alloc());
-        let used = used_after(rt.alloc(), 40, [34, 33].as_slice(), [slot].as_slice(), &table)?;
+        let used = used_after(
+            rt.alloc(),
+            40,
+            [34, 33].as_slice(),
+            [slot].as_slice(),
+            &table,
+        )?;
         assert_eq!(rt; used.free(), 5);
         let free = used.free_places(rt.alloc(), 5)?.ok_or("five are free")?;
         assert_eq!(rt; free.as_slice(), [32, 35, 37, 38, 39].as_slice());
