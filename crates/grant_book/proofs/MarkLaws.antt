@@ -1,5 +1,5 @@
 -- Which sectors are used once others were marked.
-use Rattle.std.proofs.Common.{◌≡◌, ℕ, ◌+◌, ◌<◌, ◌≤◌, Bool, true, false, not, ◌||◌, ◌==◌, List, [], ◌∷◌, length, get_or, set, map, refl, sym, ap, ⊎_elim, ◌∙◌, arith}
+use Rattle.std.proofs.Common.{◌≡◌, ℕ, ◌<◌, ◌≤◌, Bool, true, false, ◌||◌, ◌==◌, List, [], ◌∷◌, length, get_or, set, refl, sym, ap, ⊎_elim, ◌∙◌, arith}
 use Rattle.std.specs.Prelude.{nat_lt, slice_index_or}
 use Rattle.std.specs.List.{list_any}
 use Rattle.std.proofs.lemmas.Bool.{ltb-true, lt-ltb}
@@ -32,7 +32,7 @@ pub set_used : (used : List Bool) (sector at : ℕ) (default : Bool) → at < le
 set_used used sector at default within =
     ⊎_elim
     (λ same. let here : sector < length used = omega (arith, same.1) in
-        ap (λ n. get_or (set used sector true) n default) (sym same.1) ∙ get_or-set_same used sector true default here ∙ sym (ap (λ b. get_or used at default || b) same.0 ∙ or_true (get_or used at default)))
+    ap (λ n. get_or (set used sector true) n default) (sym same.1) ∙ get_or-set_same used sector true default here ∙ sym (ap (λ b. get_or used at default || b) same.0 ∙ or_true (get_or used at default)))
     (λ other. get_or-set_other used sector at true default (λ e. other.1 (sym e)) ∙ sym (ap (λ b. get_or used at default || b) other.0 ∙ or_false (get_or used at default)))
     (eqb_tells sector at)
 

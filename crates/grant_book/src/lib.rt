@@ -219,7 +219,11 @@ mod tests {
             (34, false, false),
             (35, false, true),
         ] {
-            assert_eq!(rt; is_used(&rt, &before, sector), first, "sector {sector} before");
+            assert_eq!(rt;
+                is_used(&rt, &before, sector),
+                first,
+                "sector {sector} before"
+            );
             assert_eq!(rt; is_used(&rt, &set, sector), then, "sector {sector} then");
         }
         assert_eq!(rt; set.len(), 36);

@@ -1,6 +1,6 @@
 -- The sectors that a pool uses, as marks: those of the ring, of the pages, of the pointers and of the homes that wait.
-use Rattle.std.proofs.Common.{◌≡◌, ℕ, ◌+◌, ◌<◌, ◌≤◌, Bool, true, false, not, ◌||◌, ◌==◌, List, [], ◌∷◌, Option, length, get_or, map, refl, sym, ap, ◌∙◌, arith}
-use Rattle.std.specs.Prelude.{nat_lt, filter, fold, slice_index_or}
+use Rattle.std.proofs.Common.{◌≡◌, ℕ, ◌<◌, ◌≤◌, Bool, true, false, not, ◌||◌, ◌==◌, List, [], ◌∷◌, Option, length, get_or, map, refl, sym, ap, ◌∙◌, arith}
+use Rattle.std.specs.Prelude.{nat_lt, fold, slice_index_or}
 use Rattle.std.specs.List.{AllByRecursion, list_any, range_with_len}
 use Rattle.std.proofs.lemmas.Bool.{ltb-true, lt-ltb}
 use Rattle.std.proofs.lemmas.Bool.Decides.{nat_tests}
@@ -86,7 +86,7 @@ module _ (sectors : ℕ) (pages : List ℕ) (pool : Pool) (table : TableState) w
         marked-at waits with_pointers s false (omega (arith, within, length-pointers))
         ∙ ap (λ b. b || list_any (λ place. place == s) waits) (pointers-at s within)
         ∙ ap (λ b. ((nat_lt s 32 || list_any (λ page. page == s) pages) || list_any (λ (p : Pointer). lies_in s p.place (run_length p.key)) pool.pointers) || b)
-          (any_run (λ (entry : Entry). entry.home.place) (λ (entry : Entry). run_length entry.key) s (waiting_in table) waiting)
+        (any_run (λ (entry : Entry). entry.home.place) (λ (entry : Entry). run_length entry.key) s (waiting_in table) waiting)
 
     -- marks for the ring, the pages, the pointers and the homes that wait are what is used, where each run has one sector
     pub used_is : marked (marked (marked (ring_used sectors) pages) (map (λ p. p.place) pool.pointers)) (map (λ entry. entry.home.place) (waiting_in table)) ≡ used_sectors sectors pages pool table
@@ -126,7 +126,7 @@ pub used_same : (sectors : ℕ) (pages : List ℕ) (slots : List SlotRecord) (ta
 used_same sectors pages slots table image image' contents contents' modes modes' quota quota' group group' =
     map_same (is_used pages (pool_after image contents slots table modes quota group) table) (is_used pages (pool_after image' contents' slots table modes' quota' group') table) (range_with_len 0 sectors)
     (λ s. ap (λ b. nat_lt s 32 || list_any (λ page. page == s) pages || b || list_any (λ (entry : Entry). lies_in s entry.home.place (run_length entry.key)) (waiting_in table))
-        (any_pointer (λ place key. lies_in s place (run_length key)) (with_blocks contents image) (with_blocks contents' image') table table slots))
+    (any_pointer (λ place key. lies_in s place (run_length key)) (with_blocks contents image) (with_blocks contents' image') table table slots))
 
 -- the places of a pool's pointers are those of its slots
 pub places_after : (image : Image) (table : TableState) (slots : List SlotRecord) → map (λ (p : Pointer). p.place) (map (pointer_of image table) slots) ≡ map (λ (slot : SlotRecord). slot.pointer.place) slots
@@ -167,7 +167,7 @@ slot_lengths sectors group slots all =
 pub used_after : (sectors : ℕ) (pages : List ℕ) (image : Image) (contents : List Stored) (slots : List SlotRecord) (table : TableState) (modes : List Mode) (quota : Option ℕ) (group : ℕ)
     → AllByRecursion (λ slot. IsKeyLength slot.pointer.key.len) slots → AllByRecursion (λ entry. IsKeyLength entry.key.len) table.zap → AllByRecursion (λ change. IsKeyLength (key_in change).len) table.flush → AllByRecursion (λ change. IsKeyLength (key_in change).len) table.active
     → marked (marked (marked (ring_used sectors) pages) (map (λ slot. slot.pointer.place) slots)) (map (λ entry. entry.home.place) (waiting_in table))
-        ≡ used_sectors sectors pages (pool_after image contents slots table modes quota group) table
+    ≡ used_sectors sectors pages (pool_after image contents slots table modes quota group) table
 used_after sectors pages image contents slots table modes quota group lens zap flush active =
     ap (λ (places : List ℕ). marked (marked (marked (ring_used sectors) pages) places) (map (λ (entry : Entry). entry.home.place) (waiting_in table))) (sym (places_after (with_blocks contents image) table slots))
     ∙ used_is sectors pages (pool_after image contents slots table modes quota group) table (pointer_runs (with_blocks contents image) table slots lens) (waiting_runs table zap flush active)

@@ -1,4 +1,4 @@
-use Rattle.std.proofs.Common.{◌≡◌, ℕ, ◌∙◌, ◌<◌, false, ap, arith, get_or}
+use Rattle.std.proofs.Common.{◌≡◌, ◌∙◌, false, ap, arith}
 use Rattle.std.specs.Prelude.{nat_lt}
 use Rattle.std.proofs.lemmas.List.FromFn.{fill_by_all}
 use Rattle.grant_book.proofs.SectorSet.with_ring.Goals as goal

@@ -1,5 +1,4 @@
-use Rattle.std.proofs.Common.{◌≡◌, ◌<◌, arith, ap, length}
-use Rattle.reserved_list.specs.Listed.{Listed}
+use Rattle.std.proofs.Common.{arith, ap}
 use Rattle.page_tree.specs.Chains.{pages_for}
 use Rattle.txg_sync.proofs.PlacedParts.{pages_within_all}
 use Rattle.txg_sync.proofs.places.pages_within.Goals as goal

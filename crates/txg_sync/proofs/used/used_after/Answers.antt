@@ -1,7 +1,7 @@
 -- What is marked step by step is what the pool uses.
 use Rattle.std.proofs.Common.{◌≡◌, ℕ, Bool, List, [], map, ◌∙◌, ap}
 use Rattle.ddt_entry.specs.declared.entry.Entry.{Entry}
-use Rattle.grant_book.specs.Sectors.{marked, ring_used}
+use Rattle.grant_book.specs.Sectors.{marked}
 use Rattle.table_state.proofs.UsedLaws.{used_after}
 use Rattle.txg_sync.proofs.used.used_after.Goals as goal
 
