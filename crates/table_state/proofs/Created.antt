@@ -1,17 +1,23 @@
 -- An image whose newest seal is that of a new pool stands for the empty pool.
-use Rattle.std.proofs.Common.{◌≡◌, ℕ, suc, ◌≤◌, ◌-◌, true, [], Some, length, refl, ap, ◌∙◌, arith}
-use Rattle.std.specs.Prelude.{nat_le}
-use Rattle.std.proofs.lemmas.Bool.{and_from}
+use Rattle.std.proofs.Common.{◌≡◌, ℕ, suc, ◌≤◌, ◌-◌, Bool, true, false, ◌||◌, List, [], ◌∷◌, Some, None, length, map, replicate, refl, ap, ◌∙◌, arith}
+use Rattle.std.specs.Prelude.{nat_le, nat_lt}
+use Rattle.std.specs.List.{range_with_len}
+use Rattle.std.proofs.lemmas.Bool.{and_from, lt-ltb}
 use Rattle.std.proofs.lemmas.Bool.Decides.{nat_tests}
 use Rattle.std.proofs.Common.{eq-eqb}
 use Rattle.disk_model.specs.Images.{Image}
 use Rattle.page_tree.specs.Pointers.{null_pointer}
 use Rattle.page_tree.specs.Chains.{walk}
 use Rattle.uber_ring.specs.Ring.{newest}
+use Rattle.grant_book.specs.Sectors.{ring_used}
+use Rattle.grant_book.proofs.MarkLaws.{length-ring_used, ring_used-at}
 use Rattle.pool_model.specs.Pool.{empty_pool}
+use Rattle.pool_model.specs.Space.{is_used, used_sectors}
 use Rattle.pool_model.specs.Table.{empty_table}
 use Rattle.table_state.specs.SealForms.{new_seal, is_formed, fewest_sectors, most_sectors, has_size}
 use Rattle.table_state.specs.Flat.{Flat, StandsFor, Reads, flat_version}
+use Rattle.table_state.specs.Pools.{IsHeld, new_held}
+use Rattle.table_state.specs.Sound.{IsSound}
 
 nothing : Flat
 nothing = record { slots = []; unique = []; duplicate = []; active = []; flushing = []; named = [] }
@@ -90,3 +96,44 @@ stands_for_empty tag sectors image enough few there seals =
 
     none : Reads image [] (Some null_pointer) [] []
     none = reads_nothing image (length image - 1) some
+
+map_alike : (f g : ℕ → Bool) (xs : List ℕ) → ((x : ℕ) → f x ≡ g x) → map f xs ≡ map g xs
+map_alike f g [] same = refl
+map_alike f g (x ∷ xs) same = ap (λ b. b ∷ map f xs) (same x) ∙ ap (λ (bs : List Bool). g x ∷ bs) (map_alike f g xs same)
+
+-- the sectors that an empty pool uses are the ring's
+pub used_by_none : (sectors : ℕ) → ring_used sectors ≡ used_sectors sectors [] empty_pool empty_table
+used_by_none sectors = map_alike (λ sector. nat_lt sector 32) (is_used [] empty_pool empty_table) (range_with_len 0 sectors) (λ s. ring_alone (nat_lt s 32))
+  where
+    ring_alone : (b : Bool) → b ≡ (b || false || false || false)
+    ring_alone true = refl
+    ring_alone false = refl
+
+-- it stands for the empty pool over an image in which the first seal counts
+pub new_is_held : (tag sectors : ℕ) (image : Image) → fewest_sectors ≤ sectors → sectors ≤ most_sectors → sectors ≤ length image → newest flat_version image ≡ Some (new_seal tag sectors) → IsHeld image (new_held tag sectors) empty_pool empty_table
+unfolding stands_for_empty nothing
+new_is_held tag sectors image enough few there seals = record {
+  stands = stands_for_empty tag sectors image enough few there seals;
+  slots_are = refl;
+  table_is = refl;
+  pages_are = refl;
+  used_are = used_by_none sectors;
+  modes_are = refl;
+  quota_is = refl;
+  group_is = refl;
+  sectors_are = refl;
+}
+
+-- and is sound
+pub new_is_sound : (tag sectors : ℕ) → fewest_sectors ≤ sectors → sectors ≤ most_sectors → IsSound (new_held tag sectors)
+new_is_sound tag sectors enough few = record {
+  enough = enough;
+  few = few;
+  first = omega arith;
+  last = omega arith;
+  used_len = length-ring_used sectors;
+  ring = λ sector within. ring_used-at sectors sector true (omega (arith, within, enough)) ∙ lt-ltb sector 32 within;
+  slots_within = tt;
+  within = record { zap = tt; flush = tt; active = tt };
+  lengths = record { zap = tt; flush = tt; active = tt };
+}

@@ -4,10 +4,12 @@ use Rattle.ddt_entry.specs.declared.entry.Pointer.{Pointer as SlotPointer}
 use Rattle.disk_model.specs.Images.{Image, sector_at}
 use Rattle.pool_model.specs.declared.commands.Mode.{Mode}
 use Rattle.pool_model.specs.declared.closed.SlotChange.{SlotChange}
+use Rattle.grant_book.specs.Sectors.{ring_used}
+use Rattle.pool_model.specs.declared.commands.Mode.TheVariants.{On}
 use Rattle.pool_model.specs.Pool.{Pool, Pointer}
 use Rattle.pool_model.specs.Plain.{Stored}
 use Rattle.pool_model.specs.Space.{used_sectors}
-use Rattle.pool_model.specs.Table.{TableState}
+use Rattle.pool_model.specs.Table.{TableState, empty_table}
 use Rattle.table_state.specs.Flat.{StandsFor, stands_before, pointer_of}
 use Rattle.table_state.specs.declared.slot_record.SlotRecord.{SlotRecord}
 
@@ -34,6 +36,20 @@ pub record IsHeld (image : Image) (held : Held) (pool : Pool) (table : TableStat
   pub quota_is : held.quota ≡ pool.quota
   pub group_is : held.group ≡ pool.group
   pub sectors_are : held.sectors ≡ stands.seal.sectors
+
+-- what is kept in memory of a new pool
+abbrev pub new_held : (tag sectors : ℕ) → Held
+new_held tag sectors = record {
+  slots = [];
+  table = empty_table;
+  pages = [];
+  used = ring_used sectors;
+  modes = replicate 16 On;
+  quota = None;
+  tag = tag;
+  group = 1;
+  sectors = sectors;
+}
 
 -- ---- What a sync makes of it
 

@@ -1,5 +1,5 @@
 -- What the stages of the first seal leave.
-use Rattle.std.proofs.Common.{◌≡◌, ℕ, ◌<◌, ◌≤◌, Some, None, ◌∙◌, inl, inr, ⊎_elim, arith}
+use Rattle.std.proofs.Common.{◌≡◌, ℕ, ◌<◌, ◌≤◌, Some, None, ◌∙◌, ap, sym, inl, inr, ⊎_elim, arith}
 use Rattle.std.specs.Prelude.{slice_set}
 use Rattle.disk_model.specs.Images.{Image, IsImage, Torn}
 use Rattle.disk_model.proofs.Sectors.{IsImage-torn, Torn-set}
@@ -74,11 +74,13 @@ module _ (tag sectors : ℕ) (image : Image) (is : IsImage sectors image) (none 
       }
 
       begun : (c : Image) → GateTorn 1 filled c → seal_at flat_version c 1 ≡ Some (new_seal tag sectors) → Begun tag image c
-      begun c opening shown = record {
-        empty = stands_for_empty tag sectors c enough few (omega (arith, opening.torn.count, is_filled.count))
-            (newest_begins flat_version 1 filled c (omega arith) opening.elsewhere (new_seal tag sectors) none_filled shown);
-        outside = outside_gate c opening.torn;
-      }
+      begun c opening shown =
+          let counts = newest_begins flat_version 1 filled c (omega arith) opening.elsewhere (new_seal tag sectors) none_filled shown in
+          record {
+            counts = counts ∙ ap (λ n. Some (new_seal tag n)) (sym is.count);
+            empty = stands_for_empty tag sectors c enough few (omega (arith, opening.torn.count, is_filled.count)) counts;
+            outside = outside_gate c opening.torn;
+          }
 
       -- opening the gate
       pub beginning_gate : (c : Image) → GateTorn 1 filled c → Beginning tag image c

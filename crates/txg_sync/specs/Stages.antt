@@ -4,6 +4,8 @@ use Rattle.disk_model.specs.Images.{Image, Torn, sector_at}
 use Rattle.uber_ring.specs.Ring.{gate_sector, body_sector, gate_is_open, seal_at, newest, SameElsewhere}
 use Rattle.pool_model.specs.Pool.{empty_pool}
 use Rattle.pool_model.specs.Table.{empty_table}
+use Rattle.table_state.specs.Pools.{Held, IsHeld}
+use Rattle.table_state.specs.SealForms.{new_seal}
 use Rattle.table_state.specs.Flat.{StandsFor, flat_version}
 
 -- while a slot is taken nothing but its gate may change, and it shows the seal that it showed before, or none
@@ -37,6 +39,7 @@ pub record Beginning (tag : ℕ) (image c : Image) : Type 0 where
 
 -- the first seal counts
 pub record Begun (tag : ℕ) (image c : Image) : Type 0 where
+  pub counts : newest flat_version c ≡ Some (new_seal tag (length image))
   pub empty : StandsFor tag c empty_pool empty_table
   pub outside : SameOutside 1 image c
 
@@ -48,3 +51,8 @@ Begins tag (Some image) new = (c : Image) × (new ≡ Some c) × Begun tag image
 abbrev pub HasNoSeal : Option Image → Type 0
 HasNoSeal None = ⊤
 HasNoSeal (Some image) = newest flat_version image ≡ None
+
+-- a pool was created: the pool in memory stands for the empty pool, and only the first slot of the ring has changed
+abbrev pub Creates : (old new : Option Image) → Held → Type 0
+Creates None new held = ⊤
+Creates (Some image) new held = (c : Image) × (new ≡ Some c) × IsHeld c held empty_pool empty_table × SameOutside 1 image c

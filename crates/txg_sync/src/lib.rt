@@ -11,6 +11,7 @@
 
 mod begin;
 mod chain_records;
+mod creating;
 mod fault;
 mod fill;
 mod fits;
@@ -29,6 +30,7 @@ mod used;
 
 pub use begin::seal_new_pool;
 pub use chain_records::records_of;
+pub use creating::create;
 pub use fault::SealFault;
 pub use fill::fill_slot;
 pub use fits::{slots_fit, table_fits};

@@ -104,7 +104,7 @@ fn write_plan<D: Disk>(
 }
 
 /// The fault of a sync that a fault of its sealing is.
-fn told(fault: SealFault) -> SyncFault
+pub(crate) fn told(fault: SealFault) -> SyncFault
     ensures { result ≡ sync_fault_of fault }
 {
     match fault {

@@ -64,8 +64,8 @@ returns-in-Err-clause-any_moment g c image before table told pending is =
     let is_image = subst (λ (o : Option Image). TellsImage sectors o) told tells in
     let can = subst (λ (o : Option Image). CanSyncOver o c.args.pool.now (group_in c.args.closed.now)) told c.requires.over in
     let run = subst (λ (ps : List ChainPart). LeavesOnly g.D.Disk.clock g.D.Disk.left_since c.args.disk.now c.seal_group-sealed.new.disk (MayBeSealed (slot_of c.args.planned.seal.group) (map stored_of c.args.closed.now.contents.items) ps (with_roots c.args.planned.seal ps) image)) c.as_slice-3.ensures.value
-        (subst (λ (cs : List StoredBlock). LeavesOnly g.D.Disk.clock g.D.Disk.left_since c.args.disk.now c.seal_group-sealed.new.disk (MayBeSealed (slot_of c.args.planned.seal.group) (map stored_of cs) c.as_slice-3.result.now (with_roots c.args.planned.seal c.as_slice-3.result.now) image)) c.as_slice-2.ensures
-        (c.seal_group-sealed.ensures.any_moment image told pending)) in
+    (subst (λ (cs : List StoredBlock). LeavesOnly g.D.Disk.clock g.D.Disk.left_since c.args.disk.now c.seal_group-sealed.new.disk (MayBeSealed (slot_of c.args.planned.seal.group) (map stored_of cs) c.as_slice-3.result.now (with_roots c.args.planned.seal c.as_slice-3.result.now) image)) c.as_slice-2.ensures
+    (c.seal_group-sealed.ensures.any_moment image told pending)) in
     while_syncing c.args.pool.now (group_in c.args.closed.now) c.requires.sound c.args.planned.next c.args.planned.parts.items c.args.planned.seal c.requires.planned c.requires.range c.requires.last spelt
     image (omega (arith, c.requires.on_disk, is_image.count)) (omega (arith, small, is_image.count)) can before table is g.D.Disk.clock g.D.Disk.left_since c.args.disk.now c.seal_group-sealed.new.disk run
 
@@ -82,8 +82,8 @@ returns-clause-synced g c =
       active = subst (λ (t : TableState). AllByRecursion ChangeFits t.active) (ap (λ (h : Held). h.table) c.next.view_is) c.table_fits.ensures.active;
     } in
     let seals = subst (λ (ps : List ChainPart). Seals (slot_of c.args.planned.seal.group) (map stored_of c.args.closed.now.contents.items) ps (with_roots c.args.planned.seal ps) (g.D.Disk.seen c.args.disk.now) (g.D.Disk.seen c.seal_group-sealed.new.disk)) c.as_slice-3.ensures.value
-        (subst (λ (cs : List StoredBlock). Seals (slot_of c.args.planned.seal.group) (map stored_of cs) c.as_slice-3.result.now (with_roots c.args.planned.seal c.as_slice-3.result.now) (g.D.Disk.seen c.args.disk.now) (g.D.Disk.seen c.seal_group-sealed.new.disk)) c.as_slice-2.ensures
-        c.in_default.ensures.sealed) in
+    (subst (λ (cs : List StoredBlock). Seals (slot_of c.args.planned.seal.group) (map stored_of cs) c.as_slice-3.result.now (with_roots c.args.planned.seal c.as_slice-3.result.now) (g.D.Disk.seen c.args.disk.now) (g.D.Disk.seen c.seal_group-sealed.new.disk)) c.as_slice-2.ensures
+    c.in_default.ensures.sealed) in
     syncs_of c.args.pool.now (group_in c.args.closed.now) c.requires.sound c.args.planned.next c.args.planned.parts.items c.args.planned.seal c.requires.planned c.requires.range c.requires.last spelt
     sectors (g.D.Disk.seen c.args.disk.now) (g.D.Disk.seen c.seal_group-sealed.new.disk) tells c.requires.on_disk (omega (arith, small)) c.requires.over seals
 
@@ -106,7 +106,7 @@ returns-clause-any_moment g c image before table told pending is =
     let is_image = subst (λ (o : Option Image). TellsImage sectors o) told tells in
     let can = subst (λ (o : Option Image). CanSyncOver o c.args.pool.now (group_in c.args.closed.now)) told c.requires.over in
     let run = subst (λ (ps : List ChainPart). LeavesOnly g.D.Disk.clock g.D.Disk.left_since c.args.disk.now c.seal_group-sealed.new.disk (MayBeSealed (slot_of c.args.planned.seal.group) (map stored_of c.args.closed.now.contents.items) ps (with_roots c.args.planned.seal ps) image)) c.as_slice-3.ensures.value
-        (subst (λ (cs : List StoredBlock). LeavesOnly g.D.Disk.clock g.D.Disk.left_since c.args.disk.now c.seal_group-sealed.new.disk (MayBeSealed (slot_of c.args.planned.seal.group) (map stored_of cs) c.as_slice-3.result.now (with_roots c.args.planned.seal c.as_slice-3.result.now) image)) c.as_slice-2.ensures
-        (c.seal_group-sealed.ensures.any_moment image told pending)) in
+    (subst (λ (cs : List StoredBlock). LeavesOnly g.D.Disk.clock g.D.Disk.left_since c.args.disk.now c.seal_group-sealed.new.disk (MayBeSealed (slot_of c.args.planned.seal.group) (map stored_of cs) c.as_slice-3.result.now (with_roots c.args.planned.seal c.as_slice-3.result.now) image)) c.as_slice-2.ensures
+    (c.seal_group-sealed.ensures.any_moment image told pending)) in
     while_syncing c.args.pool.now (group_in c.args.closed.now) c.requires.sound c.args.planned.next c.args.planned.parts.items c.args.planned.seal c.requires.planned c.requires.range c.requires.last spelt
     image (omega (arith, c.requires.on_disk, is_image.count)) (omega (arith, small, is_image.count)) can before table is g.D.Disk.clock g.D.Disk.left_since c.args.disk.now c.seal_group-sealed.new.disk run

@@ -1,0 +1,67 @@
+ghost use Rattle.std.specs.Prelude.{◌≡◌, ◌≤◌, ℕ, Some, IfOk, OnOk, IsErrOf};
+ghost use Rattle.disk_model.specs.Images.{Image};
+ghost use Rattle.disk_model.specs.Crashes.{LeavesOnly, NothingPending};
+ghost use Rattle.disk_model.specs.Faults.{Rose};
+ghost use Rattle.pool_model.specs.declared.faults.SyncFault.TheVariants.{ReadFault, WriteFault, Damaged, Memory};
+ghost use Rattle.table_state.specs.Sound.{IsSound};
+ghost use Rattle.table_state.specs.Pools.{new_held};
+ghost use Rattle.txg_sync.specs.Stages.{Beginning, Creates, HasNoSeal};
+
+use crate::begin::seal_new_pool;
+use crate::syncing::told;
+use disk_model::{Disk, crash_laws};
+use grant_book::SectorSet;
+use page_tree::SectorList;
+use plain_table::PlainTable;
+use pool_model::{Mode, SyncFault};
+use std::alloc::{AllocError, Global};
+use table_state::{Pool, SlotList};
+
+/// The empty pool of group 1. The error is want of memory.
+fn new_pool(alloc: Global, tag: u8, sectors: u64) -> Result<Pool, AllocError>
+    requires { 32 ≤ sectors }
+    ensures { IfOk result (λ pool. pool ≡ new_held tag sectors) }
+{
+    Ok(Pool {
+        slots: SlotList::new(alloc),
+        table: PlainTable::new(alloc),
+        pages: SectorList::new(alloc),
+        used: SectorSet::with_ring(alloc, sectors)?,
+        modes: [Mode::On; 16],
+        limit: None,
+        tag,
+        sealed: 1,
+        sectors,
+    })
+}
+
+/// Creates a pool: seals the empty pool of group 1, for a key function with this tag, on a disk on which no seal
+/// counts. The pool has the disk's sectors, 2,048 to 1,000,000. All memory is taken before anything is written.
+pub fn create<D: Disk>(alloc: Global, disk: &mut D, tag: u8) -> Result<Pool, SyncFault>
+    requires enough { 2048 ≤ D.sectors_of disk.old }
+    requires few { D.sectors_of disk.old ≤ 1000000 }
+    requires none { HasNoSeal (D.seen disk.old) }
+    ensures sectors { D.sectors_of disk.new ≡ D.sectors_of disk.old }
+    ensures made { IfOk result (λ pool. pool ≡ new_held tag (D.sectors_of disk.old)) }
+    ensures sound { IfOk result IsSound }
+    ensures created { IfOk result (Creates (D.seen disk.old) (D.seen disk.new)) }
+    ensures durable { OnOk result (NothingPending (D.seen disk.new) (D.may_leave disk.new)) }
+    ensures any_moment { (image : Image) → D.seen disk.old ≡ Some image → NothingPending (Some image) (D.may_leave disk.old)
+        → LeavesOnly D.clock D.left_since disk.old disk.new (Beginning tag image) }
+    ensures unwritten { IsErrOf result Memory → D.seen disk.new ≡ D.seen disk.old }
+    ensures whole { (sector : ℕ) → IsErrOf result (Damaged sector) → ⊥ }
+    ensures reads { D.read_faults disk.old ≤ D.read_faults disk.new }
+    ensures writes { D.write_faults disk.old ≤ D.write_faults disk.new }
+    ensures read_cause { IsErrOf result ReadFault → Rose (D.read_faults disk.old) (D.read_faults disk.new) }
+    ensures write_cause { IsErrOf result WriteFault → Rose (D.write_faults disk.old) (D.write_faults disk.new) }
+{
+    crash_laws(disk);
+    let Ok(pool) = new_pool(alloc, tag, disk.sectors()) else {
+        return Err(SyncFault::Memory);
+    };
+    let sealed = seal_new_pool(disk, tag);
+    if let Err(fault) = sealed {
+        return Err(told(fault));
+    }
+    Ok(pool)
+}
