@@ -14,4 +14,4 @@ returns-clause-sound g c =
 pub returns-clause-created : goal.returns-clause-created
 returns-clause-created g c =
     creates_of c.args.tag (g.D.Disk.sectors_of c.args.disk.now) c.in-Ok.pool _ _ (c.in-Ok.ensures ∙ ap (new_held c.args.tag) c.sectors.ensures.count)
-    (subst (λ n. TellsImage n (g.D.Disk.seen c.args.disk.now)) c.sectors.ensures.count c.sectors.ensures.told) c.requires.enough c.requires.few c.in_default.ensures.sealed
+    (subst (λ n. TellsImage n (g.D.Disk.seen c.args.disk.now)) c.sectors.ensures.count c.sectors.ensures.told) c.requires.enough c.requires.few c.in_default-sealed.ensures.sealed
