@@ -1,5 +1,5 @@
 ghost use Rattle.std.specs.Prelude.{◌≡◌, ◌≤◌, Some, OnOk, IsErrOf};
-ghost use Rattle.disk_model.specs.Images.{Image};
+ghost use Rattle.disk_model.specs.Images.{Image, Stays};
 ghost use Rattle.disk_model.specs.Crashes.{LeavesOnly, NothingPending};
 ghost use Rattle.disk_model.specs.Faults.{Rose};
 ghost use Rattle.txg_sync.specs.Stages.{Begins, Beginning, HasNoSeal};
@@ -23,6 +23,7 @@ pub fn seal_new_pool<D: Disk>(disk: &mut D, tag: u8) -> Result<(), SealFault>
     ensures durable { OnOk result (NothingPending (D.seen disk.new) (D.may_leave disk.new)) }
     ensures any_moment { (image : Image) → D.seen disk.old ≡ Some image → NothingPending (Some image) (D.may_leave disk.old)
         → LeavesOnly D.clock D.left_since disk.old disk.new (Beginning tag image) }
+    ensures unread { IsErrOf result ReadFault → Stays (D.seen disk.old) (D.seen disk.new) }
     ensures reads { D.read_faults disk.old ≤ D.read_faults disk.new }
     ensures writes { D.write_faults disk.old ≤ D.write_faults disk.new }
     ensures read_cause { IsErrOf result ReadFault → Rose (D.read_faults disk.old) (D.read_faults disk.new) }

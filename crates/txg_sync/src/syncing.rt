@@ -1,5 +1,5 @@
 ghost use Rattle.std.specs.Prelude.{◌≡◌, ◌≤◌, ◌+◌, ℕ, Some, None, IfOk, OnOk, OnErr, IsErrOf};
-ghost use Rattle.disk_model.specs.Images.{Image};
+ghost use Rattle.disk_model.specs.Images.{Image, Stays};
 ghost use Rattle.disk_model.specs.Crashes.{LeavesOnly, NothingPending};
 ghost use Rattle.disk_model.specs.Faults.{Rose};
 ghost use Rattle.pool_model.specs.Pool.{Pool as APool};
@@ -46,6 +46,7 @@ pub fn sync<D: Disk>(
         → IsHeld image pool.old before table → LeavesOnly D.clock D.left_since disk.old disk.new (SyncLeaves image pool.old (group_in closed.now) before table) }
     ensures unwritten { IsErrOf result Memory → disk.new ≡ disk.old }
     ensures damaged { (sector : ℕ) → IsErrOf result (Damaged sector) → (disk.new ≡ disk.old) × (D.seen disk.old ≡ None) }
+    ensures unread { IsErrOf result ReadFault → Stays (D.seen disk.old) (D.seen disk.new) }
     ensures reads { D.read_faults disk.old ≤ D.read_faults disk.new }
     ensures writes { D.write_faults disk.old ≤ D.write_faults disk.new }
     ensures read_cause { IsErrOf result ReadFault → Rose (D.read_faults disk.old) (D.read_faults disk.new) }
@@ -85,6 +86,7 @@ fn write_plan<D: Disk>(
         → IsHeld image pool.old before table → LeavesOnly D.clock D.left_since disk.old disk.new (SyncLeaves image pool.old (group_in closed.now) before table) }
     ensures device { IsErrOf result Memory → ⊥ }
     ensures whole { (sector : ℕ) → IsErrOf result (Damaged sector) → ⊥ }
+    ensures unread { IsErrOf result ReadFault → Stays (D.seen disk.old) (D.seen disk.new) }
     ensures reads { D.read_faults disk.old ≤ D.read_faults disk.new }
     ensures writes { D.write_faults disk.old ≤ D.write_faults disk.new }
     ensures read_cause { IsErrOf result ReadFault → Rose (D.read_faults disk.old) (D.read_faults disk.new) }
