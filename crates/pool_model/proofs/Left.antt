@@ -60,6 +60,8 @@ free_places = record {
   behind = λ h. (let e : 2049 ≤ 2048 = h.end in omega arith);
   twice = λ h. elim h.apart.0.0 as (λ x. ⊥) [ inl e ↦ omega arith | inr e ↦ omega arith ];
   apart = search rules;
+  used = refl;
+  free = refl;
 }
 
 pub other_notes : OtherNotes

@@ -1,5 +1,5 @@
 -- Worked examples of what stands after groups: each pointer's place, birth and moment, and the table's logs.
-use Rattle.std.specs.Prelude.{◌≡◌, ℕ, ◌==◌, if◌then◌else◌, List, [], ◌∷◌, replicate, map, fold, Some}
+use Rattle.std.specs.Prelude.{◌≡◌, ℕ, ◌==◌, true, false, if◌then◌else◌, List, [], ◌∷◌, ◌++◌, replicate, map, fold, Some}
 use Rattle.ddt_entry.specs.Keys.{weak_key}
 use Rattle.ddt_entry.specs.declared.key.Key.{Key}
 use Rattle.ddt_entry.specs.declared.entry.Entry.{Entry}
@@ -14,6 +14,7 @@ use Rattle.pool_model.specs.Pool.{Pointer, Mark, plain, tracked, loose, empty_po
 use Rattle.pool_model.specs.Table.{TableState, empty_table}
 use Rattle.pool_model.specs.Plain.{Act, write, read, free, Part, Reply, lanes, prune, quota, set_mode, to_write, to_free, to_read, nothing, Told}
 use Rattle.pool_model.specs.Group.{Standing, IsFree, AreFresh, lane_by_lane}
+use Rattle.pool_model.specs.Space.{used_sectors, free_count}
 use Rattle.pool_model.specs.Run.{NotesRun, ended_items, first_standing, last_standing, noted_course}
 use Rattle.pool_model.specs.Worked.{a, b, c, task, new, hit, counted, lane_note, group_note, prune_note, settings_note}
 use Rattle.pool_model.specs.WorkedTurns.{own_key}
@@ -194,6 +195,8 @@ pub record FreePlaces : Type 0 where
   pub behind : IsFreeThere 2048 → ⊥
   pub twice : AreFresh (IsFree 2048 [] first_standing) ((34, 1) ∷ (34, 1) ∷ []) → ⊥
   pub apart : AreFresh (IsFree 2048 [] first_standing) ((34, 1) ∷ (33, 1) ∷ [])
+  pub used : used_sectors 42 (40 ∷ []) two_named.pool two_named.table ≡ replicate 34 true ++ replicate 6 false ++ true ∷ false ∷ []
+  pub free : free_count 42 (40 ∷ []) two_named.pool two_named.table ≡ 7
 
 -- whether these are notes of a run of one write
 abbrev pub AreNotes : List Told → Type 0
