@@ -1,12 +1,12 @@
 -- A pool in memory, and what it stands for over the newest sealed image.
-use Rattle.std.specs.Prelude.{◌≡◌, ℕ, Bool, not, if◌then◌else◌, ◌&&◌, ◌||◌, ◌==◌, List, [], ◌∷◌, length, map, fold, filter, replicate, slice_set, ◌++◌, Option, Some, None, ◌-◌}
+use Rattle.std.specs.Prelude.{◌≡◌, ℕ, Bool, not, if◌then◌else◌, ◌&&◌, ◌==◌, List, [], ◌∷◌, length, map, fold, filter, replicate, slice_set, ◌++◌, Option, Some, None, ◌-◌}
 use Rattle.ddt_entry.specs.declared.entry.Pointer.{Pointer as SlotPointer}
-use Rattle.disk_model.specs.Images.{Image, sector_at}
+use Rattle.disk_model.specs.Images.{Image}
 use Rattle.pool_model.specs.declared.commands.Mode.{Mode}
 use Rattle.pool_model.specs.declared.closed.SlotChange.{SlotChange}
 use Rattle.grant_book.specs.Sectors.{ring_used}
 use Rattle.pool_model.specs.declared.commands.Mode.TheVariants.{On}
-use Rattle.pool_model.specs.Pool.{Pool, Pointer}
+use Rattle.pool_model.specs.Pool.{Pool}
 use Rattle.pool_model.specs.Plain.{Stored}
 use Rattle.pool_model.specs.Space.{used_sectors}
 use Rattle.pool_model.specs.Table.{TableState, empty_table}

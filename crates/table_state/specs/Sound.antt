@@ -1,5 +1,5 @@
 -- What holds of a pool in memory whatever the disk tells: its numbers are in their ranges.
-use Rattle.std.specs.Prelude.{◌≡◌, ◌<◌, ◌≤◌, ℕ, true, List, length, slice_index_or}
+use Rattle.std.specs.Prelude.{◌≡◌, ◌<◌, ◌≤◌, ℕ, true, length, slice_index_or}
 use Rattle.std.specs.List.{AllByRecursion}
 use Rattle.ddt_entry.specs.Changes.{key_in}
 use Rattle.ddt_entry.specs.Records.{IsKeyLength}

@@ -1,5 +1,5 @@
 -- What an image stands for once a group's gate is open.
-use Rattle.std.proofs.Common.{◌≡◌, ℕ, zero, suc, ◌+◌, ◌^◌, ◌<◌, ◌≤◌, ◌⊎◌, Bool, true, false, ◌||◌, ◌==◌, List, [], ◌∷◌, ◌++◌, Some, length, map, refl, sym, ap, subst, ◌∙◌, ⊎_elim, arith}
+use Rattle.std.proofs.Common.{◌≡◌, ℕ, zero, suc, ◌+◌, ◌^◌, ◌≤◌, Bool, true, false, ◌||◌, ◌==◌, List, [], ◌∷◌, Some, length, map, refl, sym, ap, subst, ◌∙◌, ⊎_elim, arith}
 use Rattle.std.proofs.lemmas.Bool.Decides.{eqb_tells}
 use Rattle.table_state.proofs.Lists.{all_from}
 use Rattle.std.specs.Prelude.{slice_index_or}
@@ -11,19 +11,18 @@ use Rattle.ddt_entry.specs.Records.{Fits as ChangeFits}
 use Rattle.ddt_entry.specs.declared.entry.Entry.{Entry}
 use Rattle.ddt_entry.specs.declared.entry.Change.TheVariants as changes
 use Rattle.disk_model.specs.Images.{Image, sector_at}
-use Rattle.uber_ring.specs.Ring.{newest}
 use Rattle.uber_ring.specs.declared.seal.Seal.{Seal}
 use Rattle.page_tree.specs.Chains.{AreOpen}
 use Rattle.pool_model.specs.Pool.{Pool, Pointer, Pairwise}
 use Rattle.pool_model.specs.Plain.{Stored}
 use Rattle.pool_model.specs.Space.{is_used, used_sectors}
-use Rattle.pool_model.specs.Table.{TableState, sync_table, waiting_in}
-use Rattle.table_state.specs.Flat.{Flat, StandsFor, IsClear, stands_before, flat_version, pointer_of, table_in}
+use Rattle.pool_model.specs.Table.{TableState, waiting_in}
+use Rattle.table_state.specs.Flat.{Flat, StandsFor, IsClear, stands_before, pointer_of, table_in}
 use Rattle.table_state.specs.Pools.{Held, IsHeld, slots_after, pool_after, with_blocks}
 use Rattle.table_state.specs.SealForms.{last_group}
 use Rattle.table_state.specs.SlotRecords.{is_slot, FitsSlot}
 use Rattle.table_state.specs.Sound.{IsSound, HasKeyLengths}
-use Rattle.table_state.specs.Sealed.{ChainPart, places_in, records_in, roots_of, seal_of, flat_of, CanBeKept, AreParts, CanStand, IsSealedImage, SameBlocks}
+use Rattle.table_state.specs.Sealed.{ChainPart, places_in, records_in, roots_of, seal_of, flat_of, CanBeKept, AreParts, CanStand, IsSealedImage}
 use Rattle.table_state.specs.Tables.{IsTable, IsTableWithin}
 use Rattle.table_state.specs.declared.slot_record.SlotRecord.{SlotRecord}
 use Rattle.table_state.proofs.SlotLaws.{is_slot-from}

@@ -1,5 +1,5 @@
 -- A pool in memory that was created stands for the empty pool.
-use Rattle.std.proofs.Common.{◌≡◌, ℕ, ◌≤◌, Option, Some, None, length, sym, subst, ap, ◌∙◌, arith}
+use Rattle.std.proofs.Common.{◌≡◌, ℕ, ◌≤◌, Option, Some, None, sym, subst, ap, ◌∙◌, arith}
 use Rattle.disk_model.specs.Images.{Image, TellsImage}
 use Rattle.pool_model.specs.Pool.{empty_pool}
 use Rattle.pool_model.specs.Table.{empty_table}

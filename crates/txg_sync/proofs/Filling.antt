@@ -1,5 +1,5 @@
 -- What the stages of a group's sync leave of an image whose newest seal is known.
-use Rattle.std.proofs.Common.{◌≡◌, ◌≢◌, ℕ, zero, suc, ◌+◌, ◌%◌, ◌<◌, ◌≤◌, Bool, true, false, ◌||◌, ◌==◌, List, [], ◌∷◌, ◌++◌, Option, Some, None, length, refl, sym, ◌∙◌, ap, subst, inl, inr, ⊎_elim, arith}
+use Rattle.std.proofs.Common.{◌≡◌, ◌≢◌, ℕ, zero, suc, ◌+◌, ◌<◌, ◌≤◌, false, ◌||◌, ◌==◌, List, [], ◌∷◌, Option, Some, None, length, refl, sym, ◌∙◌, ap, subst, inl, inr, ⊎_elim, arith}
 use Rattle.std.specs.Prelude.{IfSome, slice_set}
 use Rattle.std.specs.List.{list_any, AllByRecursion}
 use Rattle.disk_model.specs.Images.{Image, IsImage, Torn, sector_at}
@@ -20,9 +20,9 @@ use Rattle.uber_ring.proofs.Written.{behind_written, behind_kept, gate_opened}
 use Rattle.pool_model.specs.Plain.{Stored}
 use Rattle.table_state.specs.Flat.{flat_version}
 use Rattle.table_state.specs.Pools.{with_blocks, put_block, block_sector}
-use Rattle.table_state.specs.Sealed.{ChainPart, part_chain, places_in, HoldsParts}
+use Rattle.table_state.specs.Sealed.{ChainPart, places_in, HoldsParts}
 use Rattle.txg_sync.specs.Stages.{TakingLeaves, IsTaken}
-use Rattle.txg_sync.specs.Writing.{block_places, group_places, IsStored, TouchesOnly, IsUnsealed, IsSealed, MayBeSealed}
+use Rattle.txg_sync.specs.Writing.{block_places, group_places, IsStored, IsUnsealed, IsSealed, MayBeSealed}
 
 -- slots that show the same show the same highest one
 highest_same : (f g : ℕ → Option Seal) (count : ℕ) → ((slot : ℕ) → slot < count → f slot ≡ g slot) → highest f count ≡ highest g count

@@ -1,6 +1,6 @@
 -- What the stages of a group's sync come to, one after another, where the disk tells its contents and where it doesn't.
-use Rattle.std.proofs.Common.{◌≡◌, ℕ, zero, suc, ◌+◌, ◌<◌, ◌≤◌, List, [], ◌∷◌, ◌++◌, Option, Some, None, length, map, drop, get_or, refl, sym, ap, subst, ◌∙◌, arith, inl, inr}
-use Rattle.std.specs.Prelude.{slice_set, unwrap_or, replicate}
+use Rattle.std.proofs.Common.{◌≡◌, ℕ, zero, suc, ◌<◌, ◌≤◌, List, [], ◌∷◌, ◌++◌, Option, Some, None, length, map, drop, get_or, refl, ap, subst, ◌∙◌, arith, inl}
+use Rattle.std.specs.Prelude.{slice_set}
 use Rattle.std.specs.List.{AllByRecursion}
 use Rattle.disk_model.specs.Images.{Image, IsImage, TellsImage, Holds}
 use Rattle.disk_model.specs.Crashes.{LeavesOnly, NothingPending}
@@ -10,14 +10,14 @@ use Rattle.page_tree.proofs.OpenPlaces.{is_open-parts}
 use Rattle.page_tree.specs.Pointers.{null_pointer}
 use Rattle.page_tree.specs.declared.pointer.PagePtr.{PagePtr}
 use Rattle.uber_ring.specs.Seals.{FitsSeal, body_bytes, open_gate}
-use Rattle.uber_ring.specs.Ring.{slot_of, fewest_sectors, gate_sector, body_sector, newest, WritingLeaves, OpeningLeaves, GateTorn, BodyTorn}
+use Rattle.uber_ring.specs.Ring.{slot_of, fewest_sectors, gate_sector, body_sector, WritingLeaves, OpeningLeaves, GateTorn, BodyTorn}
 use Rattle.uber_ring.specs.declared.seal.Seal.{Seal}
 use Rattle.pool_model.specs.declared.closed.StoredBlock.{StoredBlock}
 use Rattle.pool_model.specs.Plain.{Stored, stored_of}
 use Rattle.table_state.specs.Flat.{flat_version}
 use Rattle.table_state.specs.Sealed.{ChainPart, places_in, roots_of}
 use Rattle.txg_sync.specs.Stages.{TakingLeaves, IsTaken, Takes}
-use Rattle.txg_sync.specs.Writing.{block_places, group_places, with_roots, IsStored, StoresParts, IsUnsealed, IsSealed, MayBeSealed, Seals, FollowsSeal}
+use Rattle.txg_sync.specs.Writing.{block_places, group_places, with_roots, StoresParts, MayBeSealed, Seals, FollowsSeal}
 use Rattle.txg_sync.proofs.Filling.{AreBehindRing, unsealed_taking, unsealed_stored, unsealed_body, sealed_gate, sealed_opened}
 use Rattle.txg_sync.proofs.Sealing.{holds_some, only_told}
 

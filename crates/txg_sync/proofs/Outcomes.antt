@@ -1,21 +1,19 @@
 -- What an image stands for while a group is synced, and once it is.
-use Rattle.std.proofs.Common.{◌≡◌, ◌≢◌, ℕ, ◌+◌, ◌/◌, ◌^◌, ◌<◌, ◌≤◌, ◌⊎◌, Bool, true, false, ◌||◌, ◌==◌, List, [], ◌∷◌, ◌++◌, Some, length, map, get_or, refl, sym, ap, subst, ◌∙◌, inl, inr, ⊎_elim, arith, eq-eqb}
-use Rattle.std.specs.Prelude.{slice_index_or, replicate, nat_lt}
-use Rattle.std.specs.List.{AllByRecursion, list_any, range_with_len}
-use Rattle.std.proofs.lemmas.Bool.{and_parts, and_from, lt-ltb, le-leb, ltb-true, leb-true}
+use Rattle.std.proofs.Common.{◌≡◌, ℕ, ◌+◌, ◌/◌, ◌<◌, ◌≤◌, Bool, true, false, ◌||◌, ◌==◌, List, [], ◌∷◌, map, refl, sym, ap, subst, ◌∙◌, ⊎_elim, arith, eq-eqb}
+use Rattle.std.specs.Prelude.{slice_index_or, nat_lt}
+use Rattle.std.specs.List.{AllByRecursion, list_any}
+use Rattle.std.proofs.lemmas.Bool.{and_from, lt-ltb, le-leb}
 use Rattle.std.proofs.lemmas.Bool.Decides.{eqb_tells}
 use Rattle.std.proofs.lemmas.List.FromFn.{get_or-map-range_with_len}
 use Rattle.std.proofs.lemmas.List.Folds.{list_any-append}
 use Rattle.ddt_entry.specs.declared.entry.Entry.{Entry}
 use Rattle.disk_model.specs.Images.{Image, sector_at}
-use Rattle.uber_ring.specs.Ring.{gate_sector, body_sector, slot_of, newest}
-use Rattle.uber_ring.specs.declared.seal.Seal.{Seal}
 use Rattle.pool_model.specs.Pool.{Pool, Pointer, run_length}
 use Rattle.pool_model.specs.Plain.{Stored}
 use Rattle.pool_model.specs.Space.{lies_in, is_used, used_sectors}
 use Rattle.pool_model.specs.Table.{TableState, waiting_in}
-use Rattle.table_state.specs.Flat.{Flat, StandsFor, SameIn, flat_version, pointer_of}
-use Rattle.table_state.specs.Pools.{Held, IsHeld, with_blocks}
+use Rattle.table_state.specs.Flat.{StandsFor, pointer_of}
+use Rattle.table_state.specs.Pools.{Held}
 use Rattle.table_state.specs.Sound.{IsSound}
 use Rattle.table_state.specs.Sealed.{ChainPart, places_in}
 use Rattle.table_state.specs.SlotRecords.{is_slot}
@@ -23,7 +21,6 @@ use Rattle.table_state.specs.declared.slot_record.SlotRecord.{SlotRecord}
 use Rattle.table_state.proofs.Kept.{state_kept, pages_behind}
 use Rattle.table_state.proofs.SlotLaws.{is_slot-from}
 use Rattle.txg_sync.specs.Planning.{Group}
-use Rattle.txg_sync.specs.Placing.{ArePlaced}
 use Rattle.txg_sync.specs.Syncing.{CanSync}
 use Rattle.txg_sync.specs.Writing.{block_places, group_places, IsUnsealed}
 

@@ -1,14 +1,14 @@
 -- How the writes of chains go on from chain to chain.
-use Rattle.std.proofs.Common.{◌≡◌, ◌≢◌, ℕ, zero, suc, ◌+◌, ◌-◌, ◌<◌, ◌≤◌, Bool, true, false, ◌==◌, ◌&&◌, ◌||◌, List, [], ◌∷◌, ◌++◌, Option, Some, None, length, map, take, drop, get_or, append_assoc, refl, sym, ap, subst, ◌∙◌, ⊎_elim, arith, eq-eqb}
-use Rattle.std.specs.Prelude.{fold, slice_set, not, nat_le, nat_lt, unwrap_or}
-use Rattle.std.specs.List.{list_any, AllByRecursion, flat_map}
-use Rattle.std.proofs.lemmas.Bool.{and_parts, not-true, or_left}
+use Rattle.std.proofs.Common.{◌≡◌, ℕ, zero, suc, ◌+◌, ◌-◌, ◌<◌, ◌≤◌, Bool, true, false, ◌==◌, ◌||◌, List, [], ◌∷◌, ◌++◌, Option, Some, None, length, take, drop, get_or, append_assoc, refl, sym, ap, subst, ◌∙◌, ⊎_elim, arith, eq-eqb}
+use Rattle.std.specs.Prelude.{fold, slice_set, unwrap_or}
+use Rattle.std.specs.List.{list_any, AllByRecursion}
+use Rattle.std.proofs.lemmas.Bool.{or_left}
 use Rattle.std.proofs.lemmas.Bool.Decides.{eqb_tells}
 use Rattle.std.proofs.lemmas.Grind.{flat_map-append}
 use Rattle.std.proofs.lemmas.List.{append-nil, take_more, drop_more, map-append, length-map, length-take, set-append_right, take-append-drop}
 use Rattle.std.proofs.lemmas.List.Folds.{list_any-append}
 use Rattle.disk_model.specs.Images.{Image, TellsImage}
-use Rattle.page_tree.specs.Chains.{HoldsWrites, AreOpen, SameBut, MayTouchAll, ChainLeaves, Written, PageWrite, is_open_to, chain_of, write_page, pointer_or_null}
+use Rattle.page_tree.specs.Chains.{HoldsWrites, AreOpen, SameBut, MayTouchAll, ChainLeaves, Written, write_page, pointer_or_null}
 use Rattle.page_tree.proofs.ChainBack.{writes_are_held, writes_behind_others}
 use Rattle.page_tree.proofs.OpenPlaces.{is_open-parts, open_places-below, open_places-parts}
 use Rattle.page_tree.specs.declared.pointer.PagePtr.{PagePtr}

@@ -1,17 +1,16 @@
 -- What the blocks and the chains of a group come to, one after the other.
-use Rattle.std.proofs.Common.{◌≡◌, ℕ, ◌≤◌, Bool, true, false, ◌||◌, ◌==◌, List, [], ◌∷◌, ◌++◌, Option, Some, None, Result, Ok, Err, length, refl, sym, ap, subst, ◌∙◌}
+use Rattle.std.proofs.Common.{◌≡◌, ℕ, ◌≤◌, Bool, true, false, ◌||◌, ◌==◌, List, Option, Some, None, Result, Ok, Err, refl, sym, ap, subst, ◌∙◌}
 use Rattle.std.specs.Prelude.{unwrap_or, OnOk}
 use Rattle.std.specs.List.{list_any}
-use Rattle.std.proofs.lemmas.List.{length-set}
 use Rattle.std.proofs.lemmas.List.Folds.{list_any-append}
 use Rattle.disk_model.specs.Images.{Image}
 use Rattle.disk_model.specs.Crashes.{LeavesOnly}
 use Rattle.disk_model.proofs.Moments.{and_then, weakened}
 use Rattle.page_tree.specs.Chains.{SameBut, MayTouchAll, ChainLeaves}
 use Rattle.pool_model.specs.Plain.{Stored}
-use Rattle.table_state.specs.Pools.{with_blocks, put_block, block_sector}
+use Rattle.table_state.specs.Pools.{with_blocks}
 use Rattle.table_state.specs.Sealed.{ChainPart, places_in}
-use Rattle.txg_sync.specs.Writing.{block_places, group_places, Stores, HoldsSince, StoresParts, IsStored}
+use Rattle.txg_sync.specs.Writing.{block_places, group_places, Stores, HoldsSince, StoresParts}
 
 -- what follows from what holds at Ok
 pub on_ok : {T E : Type 0} (result : Result T E) (P Q : Type 0) → (P → Q) → OnOk result P → OnOk result Q

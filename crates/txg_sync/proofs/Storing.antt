@@ -1,10 +1,9 @@
 -- How the writes of blocks go on from block to block.
-use Rattle.std.proofs.Common.{◌≡◌, ℕ, ◌+◌, ◌<◌, List, [], ◌∷◌, ◌++◌, Option, Some, None, length, map, take, get_or, refl, sym, ap, subst, ◌∙◌}
-use Rattle.std.specs.Prelude.{fold, slice_set}
+use Rattle.std.proofs.Common.{◌≡◌, ℕ, ◌+◌, ◌<◌, List, [], ◌∷◌, ◌++◌, Option, Some, None, length, map, take, get_or, sym, ap, subst, ◌∙◌}
 use Rattle.std.proofs.lemmas.List.{get_or-map, map_more, length-map}
 use Rattle.std.proofs.lemmas.List.Sums.{fold-append}
 use Rattle.disk_model.specs.Images.{Image, Torn, Holds, MayTouch}
-use Rattle.page_tree.specs.Chains.{SameBut, MayTouchAll, ChainLeaves}
+use Rattle.page_tree.specs.Chains.{MayTouchAll, ChainLeaves}
 use Rattle.page_tree.proofs.Chaining.{touched_more, touched_last, leaves_more}
 use Rattle.pool_model.specs.declared.closed.StoredBlock.{StoredBlock}
 use Rattle.pool_model.specs.Plain.{Stored, stored_of}

@@ -1,10 +1,10 @@
 -- What the plan of a group and its sealing come to, where the disk tells its contents and where it doesn't.
-use Rattle.std.proofs.Common.{◌≡◌, ◌≢◌, ℕ, zero, suc, get_or, ◌+◌, ◌^◌, ◌<◌, ◌≤◌, true, false, ◌==◌, List, [], ◌∷◌, ◌++◌, Option, Some, None, length, map, refl, sym, ap, subst, ◌∙◌, inl, inr, ⊎_elim, arith}
+use Rattle.std.proofs.Common.{◌≡◌, ◌≢◌, ℕ, zero, suc, get_or, ◌+◌, ◌^◌, ◌<◌, ◌≤◌, true, false, ◌==◌, List, [], ◌∷◌, Option, Some, None, length, map, sym, ap, subst, ◌∙◌, inl, inr, ⊎_elim, arith}
 use Rattle.std.specs.Prelude.{slice_index_or}
 use Rattle.std.specs.List.{AllByRecursion, list_any}
 use Rattle.std.proofs.lemmas.List.{length-map}
 use Rattle.disk_model.specs.Images.{Image, TellsImage, sector_at}
-use Rattle.disk_model.specs.Crashes.{LeavesOnly, NothingPending}
+use Rattle.disk_model.specs.Crashes.{LeavesOnly}
 use Rattle.disk_model.proofs.Moments.{weakened}
 use Rattle.page_tree.specs.Chains.{AreOpen}
 use Rattle.uber_ring.specs.Ring.{slot_of, gate_sector, body_sector}
@@ -13,15 +13,15 @@ use Rattle.pool_model.specs.declared.closed.StoredBlock.{StoredBlock}
 use Rattle.pool_model.specs.Plain.{Stored, stored_of}
 use Rattle.pool_model.specs.Pool.{Pool}
 use Rattle.pool_model.specs.Table.{TableState}
-use Rattle.table_state.specs.Flat.{StandsFor, flat_version}
+use Rattle.table_state.specs.Flat.{StandsFor}
 use Rattle.table_state.specs.Pools.{Held, IsHeld}
 use Rattle.table_state.specs.SealForms.{last_group}
 use Rattle.table_state.specs.Sound.{IsSound}
-use Rattle.table_state.specs.Sealed.{ChainPart, places_in, records_in}
+use Rattle.table_state.specs.Sealed.{ChainPart, places_in}
 use Rattle.table_state.proofs.FlatLaws.{one_state}
 use Rattle.table_state.proofs.Stands.{open_wider}
 use Rattle.txg_sync.specs.Planning.{Group, IsPlan}
-use Rattle.txg_sync.specs.Syncing.{CanSync, CanSyncOver, IsInRange, BeforeOrAfter, SyncLeaves, Syncs, group_pool, table_after}
+use Rattle.txg_sync.specs.Syncing.{CanSync, CanSyncOver, IsInRange, SyncLeaves, Syncs}
 use Rattle.txg_sync.specs.Writing.{group_places, with_roots, FollowsSeal, MayBeSealed, Seals, TouchesOnly}
 use Rattle.txg_sync.proofs.Outcomes.{stands_before_gate, not_written}
 use Rattle.txg_sync.proofs.Afterwards.{AreSpelt, held_after, stands_after}

@@ -1,8 +1,6 @@
 -- What a sync is going to write, before anything is written: the pool after the group, its chains with their places, and the seal.
-use Rattle.std.specs.Prelude.{◌≡◌, ℕ, ◌+◌, true, false, ◌==◌, List, [], ◌∷◌, ◌++◌, length, map, slice_index_or, Option}
-use Rattle.std.specs.List.{AllByRecursion, list_any}
+use Rattle.std.specs.Prelude.{◌≡◌, ℕ, ◌+◌, List, [], ◌∷◌, ◌++◌, length, map, Option}
 use Rattle.ddt_entry.specs.declared.entry.Change.{Change}
-use Rattle.page_tree.specs.Chains.{pages_for, AreOpen}
 use Rattle.page_tree.specs.Pointers.{null_pointer}
 use Rattle.page_tree.specs.declared.pointer.PagePtr.{PagePtr}
 use Rattle.pool_model.specs.declared.commands.Mode.{Mode}

@@ -1,10 +1,8 @@
 -- When a group can be synced, and what its sync comes to.
-use Rattle.std.specs.Prelude.{◌≡◌, ◌≢◌, ◌⊎◌, ◌≤◌, ◌<◌, ◌+◌, ⊤, ℕ, Bool, true, false, not, ◌==◌, List, [], length, map, count_by, sum_by, slice_index_or, Option, Some, None}
+use Rattle.std.specs.Prelude.{◌≡◌, ◌≢◌, ◌⊎◌, ◌≤◌, ◌<◌, ◌+◌, ⊤, ℕ, Bool, true, false, not, ◌==◌, List, length, count_by, slice_index_or, Option, Some, None}
 use Rattle.std.specs.List.{AllByRecursion, list_any}
-use Rattle.ddt_entry.specs.declared.entry.Change.{Change}
 use Rattle.disk_model.specs.Images.{Image, sector_at}
 use Rattle.uber_ring.specs.Ring.{gate_sector, body_sector, slot_of}
-use Rattle.page_tree.specs.Chains.{pages_for}
 use Rattle.grant_book.specs.Sectors.{marked}
 use Rattle.pool_model.specs.Pool.{Pool, IsWellFormed}
 use Rattle.pool_model.specs.Plain.{Stored}

@@ -1,12 +1,15 @@
-//! How a pool comes to be on a disk, and how a group is sealed: in stages, so that a crash at any moment
-//! leaves the pool before or the new one.
+//! How a pool comes to be on a disk, and how a group is synced, so that a crash at any moment leaves the pool
+//! before or the one after it.
 //!
-//! A seal goes into the slot of the ring that its group has. First the slot is taken: its gate is
-//! closed, if it reads open, and a barrier made. Then the body is written, with the pages that it
-//! names, and a barrier made. Last the gate is opened, and a barrier made. `specs/Stages.antt` says what
-//! each stage may leave. `seal_new_pool` seals the empty pool of group 1 so.
+//! `sync` plans first (`plan_group`): it takes all memory, makes the slots, the table, the records of the
+//! five chains and the seal that the group leaves, and chooses a sector for each page that nothing in the
+//! newest sealed image names. Then it writes (`seal_group`), which takes no memory. The seal goes into the
+//! slot of the ring that its group has: the slot is taken, its gate closed where it reads open, and a
+//! barrier made; the blocks, the chains and the body are written, and a barrier made; the gate is
+//! opened, and a barrier made. `create` does so for the empty pool of group 1.
 //!
-//! Nothing here takes memory.
+//! `specs/Planning.antt` says what is going to be written, `specs/Writing.antt` and `specs/Stages.antt` what
+//! each stage may leave, and `specs/Syncing.antt` when a group can be synced and what its sync comes to.
 #![tactic(auto)]
 
 mod begin;

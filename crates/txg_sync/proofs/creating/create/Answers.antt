@@ -1,5 +1,5 @@
 -- The pool in memory is that of a new seal.
-use Rattle.std.proofs.Common.{◌≤◌, ◌∙◌, ap, sym, subst}
+use Rattle.std.proofs.Common.{◌∙◌, ap, sym, subst}
 use Rattle.disk_model.specs.Images.{TellsImage}
 use Rattle.table_state.specs.Pools.{new_held}
 use Rattle.table_state.specs.Sound.{IsSound}

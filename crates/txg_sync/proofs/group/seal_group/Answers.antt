@@ -1,5 +1,5 @@
 -- Each stage leaves the seal that counted, or the new one.
-use Rattle.std.proofs.Common.{◌≡◌, ◌∙◌, ℕ, List, map, refl, sym, subst, arith}
+use Rattle.std.proofs.Common.{◌∙◌, ℕ, map, refl, subst}
 use Rattle.disk_model.specs.Images.{TellsImage}
 use Rattle.disk_model.proofs.Moments.{at_end}
 use Rattle.page_tree.specs.Chains.{ChainLeaves}

@@ -1,5 +1,5 @@
 -- What the parts of a plan come to.
-use Rattle.std.proofs.Common.{◌∙◌, ◌+◌, ℕ, List, ap, subst}
+use Rattle.std.proofs.Common.{◌∙◌, ◌+◌, List, ap, subst}
 use Rattle.table_state.specs.Sealed.{places_in, records_in, seal_of}
 use Rattle.table_state.specs.declared.slot_record.SlotRecord.{SlotRecord}
 use Rattle.txg_sync.specs.Planning.{group_in}
