@@ -8,7 +8,7 @@ ghost use Rattle.pool_model.specs.declared.faults.SyncFault.TheVariants.{ReadFau
 ghost use Rattle.table_state.specs.Pools.{IsHeld};
 ghost use Rattle.table_state.specs.SealForms.{last_group};
 ghost use Rattle.table_state.specs.Sound.{IsSound};
-ghost use Rattle.txg_sync.specs.Planning.{group_in, IsPlan};
+ghost use Rattle.txg_sync.specs.Planning.{group_in, IsNext, IsPlan};
 ghost use Rattle.txg_sync.specs.SyncFaults.{sync_fault_of};
 ghost use Rattle.txg_sync.specs.Syncing.{IsInRange, CanSync, CanSyncOver, SyncLeaves, Syncs};
 
@@ -39,6 +39,7 @@ pub fn sync<D: Disk>(
     ensures sectors { D.sectors_of disk.new ≡ D.sectors_of disk.old }
     ensures number { IfOk result (λ number. (number ≡ pool.old.group + 1) × (number ≡ pool.new.group)) }
     ensures synced { OnOk result (Syncs (D.seen disk.old) pool.old (group_in closed.now) pool.new (D.seen disk.new)) }
+    ensures made { OnOk result (IsNext pool.old (group_in closed.now) pool.new.pages pool.new) }
     ensures next { OnOk result (IsSound pool.new) }
     ensures kept { OnErr result (pool.new ≡ pool.old) }
     ensures durable { OnOk result (NothingPending (D.seen disk.new) (D.may_leave disk.new)) }
@@ -79,6 +80,7 @@ fn write_plan<D: Disk>(
     ensures sectors { D.sectors_of disk.new ≡ D.sectors_of disk.old }
     ensures number { IfOk result (λ number. (number ≡ pool.old.group + 1) × (number ≡ pool.new.group)) }
     ensures synced { OnOk result (Syncs (D.seen disk.old) pool.old (group_in closed.now) pool.new (D.seen disk.new)) }
+    ensures made { OnOk result (IsNext pool.old (group_in closed.now) pool.new.pages pool.new) }
     ensures next { OnOk result (IsSound pool.new) }
     ensures kept { OnErr result (pool.new ≡ pool.old) }
     ensures durable { OnOk result (NothingPending (D.seen disk.new) (D.may_leave disk.new)) }

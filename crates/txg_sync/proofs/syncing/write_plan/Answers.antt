@@ -16,7 +16,7 @@ use Rattle.table_state.specs.Pools.{Held}
 use Rattle.table_state.specs.Sealed.{ChainPart, places_in}
 use Rattle.table_state.specs.SlotRecords.{FitsSlot}
 use Rattle.table_state.specs.declared.slot_record.SlotRecord.{SlotRecord}
-use Rattle.txg_sync.specs.Planning.{group_in}
+use Rattle.txg_sync.specs.Planning.{group_in, IsNext}
 use Rattle.txg_sync.specs.Syncing.{CanSyncOver}
 use Rattle.txg_sync.specs.Writing.{with_roots, MayBeSealed, Seals}
 use Rattle.txg_sync.proofs.Afterwards.{AreSpelt, sound_after}
@@ -86,6 +86,10 @@ returns-clause-synced g c =
     c.in_default.ensures.sealed) in
     syncs_of c.args.pool.now (group_in c.args.closed.now) c.requires.sound c.args.planned.next c.args.planned.parts.items c.args.planned.seal c.requires.planned c.requires.range c.requires.last spelt
     sectors (g.D.Disk.seen c.args.disk.now) (g.D.Disk.seen c.seal_group-sealed.new.disk) tells c.requires.on_disk (omega (arith, small)) c.requires.over seals
+
+pub returns-clause-made : goal.returns-clause-made
+returns-clause-made g c =
+    subst (λ (pages : List ℕ). IsNext c.args.pool.now (group_in c.args.closed.now) pages c.args.planned.next) (sym c.requires.planned.is_next.pages_are) c.requires.planned.is_next
 
 pub returns-clause-next : goal.returns-clause-next
 returns-clause-next g c =
