@@ -1,0 +1,48 @@
+//! How much room a group needs in a pool, and how much there is, in sectors. Who opens a group asks
+//! for both, and answers want of room; its sync asks for neither.
+
+ghost use Rattle.std.specs.Prelude.{◌≡◌, ◌≤◌, not, length};
+ghost use Rattle.std.specs.List.{count_by};
+ghost use Rattle.pool_model.specs.Space.{need};
+ghost use Rattle.pool_model.specs.Table.{flush_limit};
+
+use crate::pool::Pool;
+
+impl Pool {
+    /// The number of the newest sealed group.
+    pub fn group(&self) -> u64
+        ensures { result ≡ self.now.group }
+    {
+        self.sealed
+    }
+
+    /// How many sectors the pages of the newest sealed image take.
+    pub fn pages(&self) -> u64
+        ensures { result ≡ length self.now.pages }
+    {
+        self.pages.len()
+    }
+
+    /// How many sectors nothing uses.
+    pub fn free(&self) -> u64
+        ensures { result ≡ count_by not self.now.used }
+    {
+        self.used.free()
+    }
+
+    /// How many sectors have to be free for a group of so many commands that may change a slot or the
+    /// table, so many of them writes. Where fewer are free, whoever opens the group answers want of room.
+    pub fn need(&self, commands: u64, writes: u64) -> u64
+        requires commands_fit { commands ≤ 1_048_576 }
+        requires writes_fit { writes ≤ 1_048_576 }
+        ensures { result ≡ need (length self.now.pages) (flush_limit self.now.table) commands writes }
+    {
+        let limit = 64 + self.table.flush.len() as u64 / 8;
+        let growth = 3 * limit + 200;
+        let metadata = self.pages.len() + 6 * commands + growth;
+        if writes == 0 {
+            return metadata;
+        }
+        writes + 2 * metadata + growth + 6
+    }
+}
