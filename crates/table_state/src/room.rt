@@ -1,12 +1,14 @@
 //! How much room a group needs in a pool, and how much there is, in sectors. Who opens a group asks
 //! for both, and answers want of room; its sync asks for neither.
 
-ghost use Rattle.std.specs.Prelude.{◌≡◌, ◌≤◌, not, length};
+ghost use Rattle.std.specs.Prelude.{◌≡◌, ◌≤◌, ◌<◌, ◌^◌, not, length};
 ghost use Rattle.std.specs.List.{count_by};
 ghost use Rattle.pool_model.specs.Space.{need};
 ghost use Rattle.pool_model.specs.Table.{flush_limit};
 
 use crate::pool::Pool;
+use ddt_entry::Change;
+use std::mem::size_of_val;
 
 impl Pool {
     /// The number of the newest sealed group.
@@ -18,9 +20,10 @@ impl Pool {
 
     /// How many sectors the pages of the newest sealed image take.
     pub fn pages(&self) -> u64
-        ensures { result ≡ length self.now.pages }
+        ensures count { result ≡ length self.now.pages }
+        ensures few { result < 2 ^ 61 }
     {
-        self.pages.len()
+        count_sectors(self.pages.as_slice())
     }
 
     /// How many sectors nothing uses.
@@ -37,12 +40,27 @@ impl Pool {
         requires writes_fit { writes ≤ 1_048_576 }
         ensures { result ≡ need (length self.now.pages) (flush_limit self.now.table) commands writes }
     {
-        let limit = 64 + self.table.flush.len() as u64 / 8;
-        let growth = 3 * limit + 200;
-        let metadata = self.pages.len() + 6 * commands + growth;
+        let growth = 3 * (64 + count_changes(&self.table.flush) / 8) + 200;
+        let metadata = self.pages() + 6 * commands + growth;
         if writes == 0 {
             return metadata;
         }
         writes + 2 * metadata + growth + 6
     }
+}
+
+/// How many sectors are listed. Their numbers have eight bytes each, and all bytes of a list can be counted.
+fn count_sectors(sectors: &[u64]) -> u64
+    ensures count { result ≡ length sectors.now }
+    ensures few { result < 2 ^ 61 }
+{
+    size_of_val(sectors) as u64 / 8
+}
+
+/// How many changes a log has. A list has room for fewer than 2^63 items.
+fn count_changes(log: &Vec<Change>) -> u64
+    ensures count { result ≡ length log.now.items }
+    ensures few { result < 2 ^ 63 }
+{
+    log.len() as u64
 }
