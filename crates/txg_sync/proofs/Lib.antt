@@ -15,3 +15,4 @@ pub mod PlannedSeals
 pub mod Syncs
 pub mod PlacedParts
 pub mod Planned
+pub mod RoomLaws
