@@ -1,10 +1,11 @@
 -- Which sectors are used once others were marked.
-use Rattle.std.proofs.Common.{◌≡◌, ℕ, ◌<◌, ◌≤◌, Bool, true, false, ◌||◌, ◌==◌, List, [], ◌∷◌, length, get_or, set, refl, sym, ap, ⊎_elim, ◌∙◌, arith}
+use Rattle.std.proofs.Common.{◌≡◌, ℕ, zero, suc, ◌+◌, ◌<◌, ◌≤◌, Bool, true, false, not, ◌||◌, ◌==◌, cond, List, [], ◌∷◌, length, get_or, set, refl, sym, ap, ⊎_elim, ◌∙◌, arith}
 use Rattle.std.specs.Prelude.{nat_lt, slice_index_or}
-use Rattle.std.specs.List.{list_any}
+use Rattle.std.specs.List.{list_any, count_by}
 use Rattle.std.proofs.lemmas.Bool.{ltb-true, lt-ltb}
 use Rattle.std.proofs.lemmas.Bool.Decides.{eqb_tells, nat_tests}
 use Rattle.std.proofs.lemmas.List.{length-set, get_or-set_same, get_or-set_other, get_or_past}
+use Rattle.std.proofs.lemmas.List.Sums.{sum_by-cons}
 use Rattle.std.proofs.lemmas.List.FromFn.{length-map-range_with_len, get_or-map-range_with_len}
 use Rattle.grant_book.specs.Sectors.{marked, ring_used}
 
@@ -46,6 +47,24 @@ marked-at (sector ∷ sectors) used at default within =
     marked-at sectors (set used sector true) at default yet
     ∙ ap (λ b. b || list_any (λ s. s == at) sectors) (set_used used sector at default within)
     ∙ or_swap (get_or used at default) (sector == at) (list_any (λ s. s == at) sectors)
+
+-- ---- How many are free
+
+-- a sector in front that isn't used is one more that is free
+free_cons : (is_used : Bool) (used : List Bool) → count_by not (is_used ∷ used) ≡ cond (not is_used) 1 0 + count_by not used
+free_cons is_used used = sum_by-cons (λ b. cond (not b) 1 0) is_used used
+
+-- one sector more that is used leaves at most one fewer free
+free_set : (used : List Bool) (sector : ℕ) → count_by not used ≤ count_by not (set used sector true) + 1
+free_set [] sector = omega arith
+free_set (true ∷ used) zero = omega arith
+free_set (false ∷ used) zero = omega (arith, free_cons false used, free_cons true used)
+free_set (is_used ∷ used) (suc sector) = omega (arith, free_cons is_used used, free_cons is_used (set used sector true), free_set used sector)
+
+-- marks leave at most as many fewer free as there are
+pub free_marked : (sectors : List ℕ) (used : List Bool) → count_by not used ≤ count_by not (marked used sectors) + length sectors
+free_marked [] used = omega arith
+free_marked (sector ∷ sectors) used = omega (arith, free_marked sectors (set used sector true), free_set used sector)
 
 -- ---- The ring
 

@@ -5,3 +5,4 @@ pub mod Walking
 pub mod Digests
 pub mod OpenPlaces
 pub mod ChainBack
+pub mod ChainPages

@@ -1,6 +1,8 @@
 -- How much room a group needs, and how much there is.
-use Rattle.std.specs.Prelude.{ℕ, ◌+◌, ◌*◌, Bool, true, false, not, ◌&&◌, ◌||◌, ◌==◌, nat_le, nat_lt, List, map, count_by, if◌then◌else◌}
+use Rattle.std.specs.Prelude.{ℕ, ◌+◌, ◌*◌, Bool, true, false, not, ◌&&◌, ◌||◌, ◌==◌, nat_le, nat_lt, List, map, count_by, Option, Some, None, if◌then◌else◌}
 use Rattle.std.specs.List.{list_any, range_with_len}
+use Rattle.pool_model.specs.declared.notes.Outcome.{Outcome}
+use Rattle.pool_model.specs.declared.notes.Outcome.TheVariants.{NoSpace}
 use Rattle.pool_model.specs.Pool.{Pool, run_length}
 use Rattle.pool_model.specs.Table.{TableState, waiting_in}
 use Rattle.pool_model.specs.Plain.{Task, Act, write, read, free}
@@ -51,3 +53,7 @@ used_sectors sectors pages pool table = map (is_used pages pool table) (range_wi
 -- how many sectors nothing names
 abbrev pub free_count : (sectors : ℕ) → (pages : List ℕ) → Pool → TableState → ℕ
 free_count sectors pages pool table = count_by not (used_sectors sectors pages pool table)
+
+-- the outcome of a group that needs so many sectors where so many are free; nothing where they are enough
+abbrev pub space_lacking : (free needed : ℕ) → Option Outcome
+space_lacking free needed = if nat_lt free needed then Some (NoSpace needed free) else None

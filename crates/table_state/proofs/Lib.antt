@@ -2,6 +2,7 @@ pub mod Created
 pub mod FlatLaws
 pub mod Kept
 pub mod Lists
+pub mod PagesOf
 pub mod SealBack
 pub mod SlotLaws
 pub mod SlotsAfter

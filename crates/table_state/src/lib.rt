@@ -15,6 +15,7 @@
 
 mod laws;
 mod pool;
+mod room;
 mod seal_form;
 #[cfg(test)]
 mod seal_form_tests;

@@ -16,3 +16,4 @@ pub mod Syncs
 pub mod PlacedParts
 pub mod Planned
 pub mod Created
+pub mod RoomLaws
