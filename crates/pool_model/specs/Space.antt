@@ -55,5 +55,5 @@ abbrev pub free_count : (sectors : ℕ) → (pages : List ℕ) → Pool → Tabl
 free_count sectors pages pool table = count_by not (used_sectors sectors pages pool table)
 
 -- the outcome of a group that needs so many sectors where so many are free; nothing where they are enough
-abbrev pub space_lacking : (free needed : ℕ) → Option Outcome
-space_lacking free needed = if nat_lt free needed then Some (NoSpace needed free) else None
+abbrev pub space_lacking : (left needed : ℕ) → Option Outcome
+space_lacking left needed = if nat_lt left needed then Some (NoSpace needed left) else None

@@ -1,9 +1,9 @@
 use crate::{SealFault, create, seal_new_pool};
 use disk_model::{Disk, Failed, MemDisk};
 use pool_model::{Outcome, SyncFault};
+use std::alloc::Global;
 use std::process::Abort;
 use std::test::Fail;
-use std::alloc::Global;
 use table_state::{Pool, new_seal};
 use uber_ring::{Seal, close_slot, find, open_slot, write_body};
 
@@ -194,12 +194,30 @@ fn a_group_that_needs_more_than_is_free_has_no_space(rt: HostRuntime) -> Result<
     assert_eq!(rt; pool.free(), 2016);
     for (commands, writes, outcome) in [
         (64u64, 64u64, None),
-        (65, 65, Some(Outcome::NoSpace { need: 2027, free: 2016 })),
+        (
+            65,
+            65,
+            Some(Outcome::NoSpace {
+                need: 2027,
+                free: 2016,
+            }),
+        ),
         (65, 54, None),
-        (66, 54, Some(Outcome::NoSpace { need: 2028, free: 2016 })),
+        (
+            66,
+            54,
+            Some(Outcome::NoSpace {
+                need: 2028,
+                free: 2016,
+            }),
+        ),
         (1, 0, None),
     ] {
-        assert_eq!(rt; pool.no_space(commands, writes), outcome, "{commands} commands, {writes} writes");
+        assert_eq!(rt;
+            pool.no_space(commands, writes),
+            outcome,
+            "{commands} commands, {writes} writes"
+        );
     }
     assert_eq!(rt; pool.need(1, 0), 398);
     Ok(())
