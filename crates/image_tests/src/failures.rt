@@ -1,0 +1,63 @@
+use crate::crashes::{assert_is_of, homes, slots, two_writes, with_a_pointer};
+use crate::groups::{assert_holds, entry, group_of};
+use crate::sound_pool::imported;
+use pool_model::{ChangeList, SyncFault};
+use std::test::Fail;
+
+#[test]
+fn a_fault_is_told_as_what_it_was(rt: HostRuntime) -> Result<(), Fail> {
+    let alloc = rt.alloc();
+    let closed = two_writes(alloc)?;
+    for failing in [1, 2, 3, 4, 5, 6, 7, 8, 9, 10] {
+        let (mut disk, mut pool) = with_a_pointer(&rt, alloc)?;
+        let made = disk.inner.calls_made();
+        disk.inner.fail_call(made.saturating_add(failing));
+        let answer = pool.sync(&rt, alloc, &mut disk, &closed);
+        assert_eq!(rt; answer, Err(SyncFault::WriteFault), "call {failing} fails");
+        assert_is_of(&rt, alloc, &pool, 2)?;
+    }
+    // The new seal has the first meter, the import the second, and the two syncs one each, whose one read is that
+    // of the gate.
+    let (mut disk, mut pool) = with_a_pointer(&rt, alloc)?;
+    disk.inner.fail_reads(4, 1, 1);
+    let answer = pool.sync(&rt, alloc, &mut disk, &closed);
+    assert_eq!(rt; answer, Err(SyncFault::ReadFault));
+    assert_is_of(&rt, alloc, &pool, 2)?;
+    Ok(())
+}
+
+#[test]
+fn without_room_for_the_pages_nothing_is_written(rt: HostRuntime) -> Result<(), Fail> {
+    // One page of slots and one of the active log. The group has a block in each free sector up to this one, and of
+    // the 2,048 sectors the last two, the last, or none are then free.
+    let alloc = rt.alloc();
+    for (last, answer) in [
+        (2045, Ok(3)),
+        (2046, Err(SyncFault::Damaged(0))),
+        (2047, Err(SyncFault::Damaged(0))),
+    ] {
+        let (mut disk, mut pool) = with_a_pointer(&rt, alloc)?;
+        let mut blocks = Vec::new(alloc);
+        for place in 32..2048u64 {
+            assert!(rt; place < pool.pool.used.len());
+            if place <= last && !pool.pool.used.has(place) {
+                blocks.push(entry(7, place, 3, 1))?;
+            }
+        }
+        let mut closed = group_of(alloc, &[], blocks.as_slice())?;
+        closed.changes = ChangeList::new(alloc);
+        let made = disk.inner.calls_made();
+        let given = pool.sync(&rt, alloc, &mut disk, &closed);
+        assert_eq!(rt; given, answer, "blocks up to {last}");
+        if answer.is_err() {
+            assert_eq!(rt; disk.inner.calls_made(), made);
+            assert_is_of(&rt, alloc, &pool, 2)?;
+        } else {
+            let found = imported(&rt, alloc, &mut disk)?;
+            let [home, _, _] = homes();
+            let [held, _, _] = slots();
+            assert_holds(&rt, alloc, &found, 3, &[held], &[home])?;
+        }
+    }
+    Ok(())
+}
