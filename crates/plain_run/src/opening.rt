@@ -10,8 +10,8 @@ ghost use Rattle.plain_run.specs.Openings.{bytes_at, opening_by};
 ghost use Rattle.plain_run.specs.Placed.{placed_of};
 
 use ddt_entry::{Home, Key, KeyOf};
-use plain_table::PlainTable;
 use plain_pool::{PlainPointer, copied_block};
+use plain_table::PlainTable;
 use pool_model::{Block, ReadAnswer};
 use reserved_list::ReservedList;
 use std::alloc::{AllocError, Global};

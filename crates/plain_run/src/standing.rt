@@ -12,8 +12,8 @@ use crate::course::PlainCourse;
 use crate::group::after_lanes;
 use crate::opening::{PlacedBlock, PlainOpening, copied_blocks, placed};
 use ddt_entry::KeyOf;
-use plain_table::PlainTable;
 use plain_pool::{PlainPointer, PlainPool};
+use plain_table::PlainTable;
 use pool_model::{GroupNote, LanesGroup, Mode, PruneRule};
 use std::alloc::{AllocError, Global};
 

@@ -25,9 +25,7 @@ mod stats;
 mod worked;
 
 pub use answers::{Answers, CommandAnswer, FreeAnswer, ReadAnswer, WriteAnswer};
-pub use closed::{
-    ChangeList, Closed, Contents, EntryList, SlotChange, SlotChanges, StoredBlock,
-};
+pub use closed::{ChangeList, Closed, Contents, EntryList, SlotChange, SlotChanges, StoredBlock};
 pub use commands::{
     Block, Command, CommandFile, CommandList, Item, ItemList, LanesGroup, Mode, Payload, PruneRule,
     Verb,

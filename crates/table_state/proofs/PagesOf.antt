@@ -108,7 +108,7 @@ module _ (seal : Seal) (flat : Flat) (whole : HoldTogether seal flat) where
       omega (
         arith,
         missed_fold entries_put (λ entry. entry.home.count == 1) flat.duplicate flat.unique
-        (all_from (λ entry. 1 < entry.home.count) (λ entry. (entry.home.count == 1) ≡ false) (λ entry. not_once entry.home.count) flat.duplicate whole.counted_more),
+            (all_from (λ entry. 1 < entry.home.count) (λ entry. (entry.home.count == 1) ≡ false) (λ entry. not_once entry.home.count) flat.duplicate whole.counted_more),
         length-filter-le (λ entry. entry.home.count == 1) flat.unique,
       )
 
@@ -118,7 +118,7 @@ module _ (seal : Seal) (flat : Flat) (whole : HoldTogether seal flat) where
         arith,
         passing_fold entries_put (λ entry. nat_lt 1 entry.home.count) flat.duplicate flat.unique,
         none_passing (λ entry. nat_lt 1 entry.home.count) flat.unique
-        (all_from (λ entry. entry.home.count ≡ 1) (λ entry. nat_lt 1 entry.home.count ≡ false) (λ entry. not_more entry.home.count) flat.unique whole.counted_once),
+            (all_from (λ entry. entry.home.count ≡ 1) (λ entry. nat_lt 1 entry.home.count ≡ false) (λ entry. not_more entry.home.count) flat.unique whole.counted_once),
       )
 
   fewer_active : length (table_in seal flat).active ≤ length flat.active
