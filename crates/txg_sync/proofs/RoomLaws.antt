@@ -1,6 +1,5 @@
 -- The need of a group is enough: where so many sectors are free, its blocks and the pages of its chains have room.
-use Rattle.std.proofs.Common.{◌≡◌, ℕ, ◌+◌, ◌*◌, ◌≤◌, Bool, true, false, not, List, [], ◌∷◌, length, map, refl, ap, ◌∙◌, arith}
-use Rattle.std.specs.Prelude.{◌==◌, if◌then◌else◌}
+use Rattle.std.proofs.Common.{◌≡◌, ℕ, ◌+◌, ◌*◌, ◌≤◌, not, List, [], ◌∷◌, length, map, ap, ◌∙◌, arith}
 use Rattle.std.specs.List.{count_by}
 use Rattle.std.proofs.lemmas.Bool.Decides.{nat_tests}
 use Rattle.std.proofs.lemmas.List.{length-map}
@@ -13,7 +12,7 @@ use Rattle.grant_book.proofs.MarkLaws.{free_marked}
 use Rattle.pool_model.specs.Pool.{Pool}
 use Rattle.pool_model.specs.Plain.{Stored}
 use Rattle.pool_model.specs.Space.{flush_room, need}
-use Rattle.pool_model.specs.Table.{TableState, flush_limit, sync_table}
+use Rattle.pool_model.specs.Table.{TableState, flush_limit}
 use Rattle.table_state.specs.Pools.{Held, IsHeld, slots_after}
 use Rattle.table_state.specs.Sealed.{records_in, entry_bytes}
 use Rattle.table_state.specs.SlotRecords.{slot_bytes}
