@@ -15,8 +15,8 @@ use Rattle.ddt_entry.specs.declared.entry.Entry.{Entry}
 use Rattle.ddt_entry.specs.declared.entry.Change.{Change}
 use Rattle.ddt_entry.specs.declared.entry.Change.TheVariants as changes
 use Rattle.ddt_entry.proofs.KeyLaws.{key_cmp_total, exact_keys, is_eq-key_cmp, key_eq-true, key_eq-same, key_eq-symm}
-use Rattle.pool_model.specs.Table.{TableState, home_in, entry_at, change_at, found_over, found, set_entry, drop_entry, set_found, entries_found, set_change}
-use Rattle.table_state.specs.Flat.{AreRising, last_changes}
+use Rattle.pool_model.specs.Table.{TableState, home_in, entry_at, change_at, found_over, found, set_entry, drop_entry, set_found, entries_found}
+use Rattle.table_state.specs.Flat.{AreRising}
 use Rattle.table_state.specs.Tables.{AreChangesRising, IsTable}
 use Rattle.pool_import.proofs.JudgingLists.{every_weaker, every_both, every_filter, pairs_filter}
 
@@ -202,25 +202,3 @@ module _ (P : Entry → Type 0) (Q : Change → Type 0) (entry_of : (entry : Ent
 
   pub every_found : (table : TableState) → AllByRecursion P table.zap → AllByRecursion Q table.flush → AllByRecursion Q table.active → AllByRecursion P (entries_found table)
   every_found table zap flush active = every_log table.active (fold set_found table.zap table.flush) active (every_log table.flush table.zap flush zap)
-
--- what holds of both classes holds of the stored table
-pub every_class : (P : Entry → Type 0) (more es : List Entry) → AllByRecursion P more → AllByRecursion P es → AllByRecursion P (fold (λ entries entry. set_entry entry entries) es more)
-every_class P [] es each there = there
-every_class P (entry ∷ more) es each there = every_class P more (set_entry entry es) each.1 (every_set P entry es each.0 there)
-
--- what holds of each change and of a new one holds once it is set
-every_set_change : (Q : Change → Type 0) (c : Change) (log : List Change) → Q c → AllByRecursion Q log → AllByRecursion Q (set_change c log)
-every_set_change Q c [] here each = (here, tt)
-every_set_change Q c (d ∷ log) here each =
-    let rest = every_set_change Q c log here each.1 in
-    elim (key_cmp (key_in c) (key_in d)) as (λ o. AllByRecursion Q (if is_lt o then c ∷ d ∷ log else (if is_eq o then c ∷ log else d ∷ set_change c log)))
-    [ Less ↦ (here, each) | Equal ↦ (here, each.1) | Greater ↦ (each.0, rest) ]
-
--- what holds of each change of a log holds of the last ones
-every_last_from : (Q : Change → Type 0) (log sorted : List Change) → AllByRecursion Q log → AllByRecursion Q sorted → AllByRecursion Q (fold (λ sorted change. set_change change sorted) sorted log)
-every_last_from Q [] sorted each there = there
-every_last_from Q (c ∷ log) sorted each there = every_last_from Q log (set_change c sorted) each.1 (every_set_change Q c sorted each.0 there)
-
--- the same from nothing on
-pub every_last : (Q : Change → Type 0) (log : List Change) → AllByRecursion Q log → AllByRecursion Q (last_changes log)
-every_last Q log each = every_last_from Q log [] each tt

@@ -5,25 +5,28 @@ use Rattle.std.specs.List.{AllByRecursion, list_any, list_all}
 use Rattle.std.proofs.lemmas.Bool.{false≢true}
 use Rattle.std.proofs.lemmas.Bool.Decides.{nat_tests}
 use Rattle.std.proofs.lemmas.List.FromFn.{fill_by_all, length-map-range_with_len, get_or-map-range_with_len}
+use Rattle.ddt_entry.specs.Records.{IsKeyLength}
 use Rattle.ddt_entry.specs.declared.entry.Entry.{Entry}
-use Rattle.ddt_entry.specs.declared.entry.Change.TheVariants as changes
 use Rattle.disk_model.specs.Images.{Image}
 use Rattle.uber_ring.specs.declared.seal.Seal.{Seal}
 use Rattle.pool_model.specs.Pool.{Pool, Pointer, Pairwise, IsApart, run_length, LiesWithin, is_at}
 use Rattle.pool_model.specs.Table.{TableState, IsApartFrom, waiting_in, entries_found}
 use Rattle.pool_model.specs.Space.{is_used, lies_in, used_sectors}
-use Rattle.table_state.specs.Flat.{Flat, HoldTogether, IsWithin, IsChangeWithin, IsClear, table_in, pool_in, pointer_of, counted_homes, last_changes}
+use Rattle.table_state.specs.Flat.{Flat, HoldTogether, IsWithin, IsChangeWithin, IsClear, table_in, pool_in, pointer_of, counted_homes}
 use Rattle.table_state.specs.SlotRecords.{is_slot}
+use Rattle.table_state.specs.Sound.{HasLength}
 use Rattle.table_state.specs.Tables.{IsTable, IsTableWithin}
 use Rattle.table_state.specs.declared.slot_record.SlotRecord.{SlotRecord}
-use Rattle.pool_import.specs.Lengths.{IsEntryLength, HasLengths}
+use Rattle.table_state.proofs.UsedLaws.{one_sector}
+use Rattle.pool_import.specs.Lengths.{HasLengths}
 use Rattle.pool_import.specs.Marks.{spot_of, spot_in, go_apart, is_counted, are_owned, marked, taken, ring_used, places_of, places_in, is_clear}
 use Rattle.pool_import.specs.Whole.{IsWhole}
 use Rattle.pool_import.specs.declared.marks.Spot.{Spot}
+use Rattle.pool_import.proofs.Lengths.{key_lengths}
 use Rattle.pool_import.proofs.JudgingLists.{every_weaker, every_both, every_map, every_unmap, every_filter, pairs_map, pairs_unmap, pairs_weaker, list_all-each, each-list_all}
-use Rattle.pool_import.proofs.JudgingFound.{every_found, every_class, every_last}
+use Rattle.pool_import.proofs.JudgingFound.{every_found}
 use Rattle.pool_import.proofs.JudgingHomes.{IsKnown, known_of, homes_if_counted, counted_if_homes}
-use Rattle.pool_import.proofs.JudgingPairs.{one_sector, apart_if, differ_if, ranged_of, within_of, IsSound, slots_differ, together_if_apart, apart_if_together}
+use Rattle.pool_import.proofs.JudgingPairs.{apart_if, differ_if, ranged_of, within_of, IsSound, slots_differ, together_if_apart, apart_if_together}
 use Rattle.pool_import.proofs.JudgingUsed.{or_none, length-marked, marked-at, taken_if_free, WasTaken, free_if_taken}
 use Rattle.pool_import.proofs.JudgingOwners.{apart_if_owned, owned_if_apart}
 
@@ -87,21 +90,15 @@ pub record Grounds (seal : Seal) (flat : Flat) : Type 0 where
   pub sorted : IsTable (table_in seal flat)
   pub within : IsTableWithin seal.sectors seal.group (table_in seal flat)
 
--- the length of an entry's key
-abbrev HasLength : Entry → Type 0
-HasLength entry = IsEntryLength (changes.Entry entry)
-
 -- each home that the table finds has such a place
 found_roomed : (seal : Seal) (flat : Flat) → Grounds seal flat → AllByRecursion (IsRoomed seal.sectors) (entries_found (table_in seal flat))
 found_roomed seal flat grounds =
-    every_both (IsWithin seal.sectors seal.group) HasLength (IsRoomed seal.sectors)
+    let lengths = key_lengths seal flat grounds.lengths in
+    every_both (IsWithin seal.sectors seal.group) (λ e. IsKeyLength e.key.len) (IsRoomed seal.sectors)
     (λ e ranges len. record { start = ranges.place; on_disk = ranges.on_disk; run = one_sector e.key len })
     (entries_found (table_in seal flat))
     (every_found (IsWithin seal.sectors seal.group) (IsChangeWithin seal.sectors seal.group) (λ e is. is) (table_in seal flat) grounds.within.zap grounds.within.flush grounds.within.active)
-    (every_found HasLength IsEntryLength (λ e is. is) (table_in seal flat)
-    (every_class HasLength flat.duplicate flat.unique grounds.lengths.duplicate grounds.lengths.unique)
-    (every_filter IsEntryLength _ (last_changes flat.flushing) (every_last IsEntryLength flat.flushing grounds.lengths.flushing))
-    (every_last IsEntryLength flat.active grounds.lengths.active))
+    (every_found (λ e. IsKeyLength e.key.len) HasLength (λ e is. is) (table_in seal flat) lengths.zap lengths.flush lengths.active)
 
 -- ---- The tests, and what they say of any image
 
