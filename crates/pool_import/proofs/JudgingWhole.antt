@@ -4,22 +4,23 @@ use Rattle.std.specs.Prelude.{nat_lt, sum_by}
 use Rattle.std.specs.List.{AllByRecursion, list_any, list_all}
 use Rattle.std.proofs.lemmas.Bool.{false≢true}
 use Rattle.std.proofs.lemmas.Bool.Decides.{nat_tests}
-use Rattle.std.proofs.lemmas.List.FromFn.{fill_by_all, length-map-range_with_len, get_or-map-range_with_len}
 use Rattle.ddt_entry.specs.Records.{IsKeyLength}
 use Rattle.ddt_entry.specs.declared.entry.Entry.{Entry}
 use Rattle.disk_model.specs.Images.{Image}
+use Rattle.grant_book.specs.Sectors.{marked, ring_used}
+use Rattle.grant_book.proofs.MarkLaws.{length-marked, marked-at, length-ring_used, ring_used-at}
 use Rattle.uber_ring.specs.declared.seal.Seal.{Seal}
 use Rattle.pool_model.specs.Pool.{Pool, Pointer, Pairwise, IsApart, run_length, LiesWithin, is_at}
 use Rattle.pool_model.specs.Table.{TableState, IsApartFrom, waiting_in, entries_found}
-use Rattle.pool_model.specs.Space.{is_used, lies_in, used_sectors}
+use Rattle.pool_model.specs.Space.{used_sectors}
 use Rattle.table_state.specs.Flat.{Flat, HoldTogether, IsWithin, IsChangeWithin, IsClear, table_in, pool_in, pointer_of, counted_homes}
 use Rattle.table_state.specs.SlotRecords.{is_slot}
 use Rattle.table_state.specs.Sound.{HasLength}
 use Rattle.table_state.specs.Tables.{IsTable, IsTableWithin}
 use Rattle.table_state.specs.declared.slot_record.SlotRecord.{SlotRecord}
-use Rattle.table_state.proofs.UsedLaws.{one_sector}
+use Rattle.table_state.proofs.UsedLaws.{one_sector, used_is}
 use Rattle.pool_import.specs.Lengths.{HasLengths}
-use Rattle.pool_import.specs.Marks.{spot_of, spot_in, go_apart, is_counted, are_owned, marked, taken, ring_used, places_of, places_in, is_clear}
+use Rattle.pool_import.specs.Marks.{spot_of, spot_in, go_apart, is_counted, are_owned, taken, places_of, places_in, is_clear}
 use Rattle.pool_import.specs.Whole.{IsWhole}
 use Rattle.pool_import.specs.declared.marks.Spot.{Spot}
 use Rattle.pool_import.proofs.Lengths.{key_lengths}
@@ -27,7 +28,7 @@ use Rattle.pool_import.proofs.JudgingLists.{every_weaker, every_both, every_map,
 use Rattle.pool_import.proofs.JudgingFound.{every_found}
 use Rattle.pool_import.proofs.JudgingHomes.{IsKnown, known_of, homes_if_counted, counted_if_homes}
 use Rattle.pool_import.proofs.JudgingPairs.{apart_if, differ_if, ranged_of, within_of, IsSound, slots_differ, together_if_apart, apart_if_together}
-use Rattle.pool_import.proofs.JudgingUsed.{or_none, length-marked, marked-at, taken_if_free, WasTaken, free_if_taken}
+use Rattle.pool_import.proofs.JudgingUsed.{or_none, taken_if_free, WasTaken, free_if_taken}
 use Rattle.pool_import.proofs.JudgingOwners.{apart_if_owned, owned_if_apart}
 
 -- ---- Lists
@@ -51,19 +52,10 @@ spots_are : (image : Image) (table : TableState) (slots : List SlotRecord) → m
 spots_are image table [] = refl
 spots_are image table (slot ∷ slots) = ap (λ l. spot_of table slot ∷ l) (spots_are image table slots)
 
--- a test of images of a function
-any_map : {X Y : Type 0} (test : Y → Bool) (f : X → Y) (xs : List X) → list_any test (map f xs) ≡ list_any (λ x. test (f x)) xs
-any_map test f [] = refl
-any_map test f (x ∷ xs) = ap (λ b. test (f x) || b) (any_map test f xs)
-
--- two tests that agree on each element
-any_same : {X : Type 0} (test other : X → Bool) (xs : List X) → AllByRecursion (λ x. test x ≡ other x) xs → list_any test xs ≡ list_any other xs
-any_same test other [] each = refl
-any_same test other (x ∷ xs) each = ap (λ b. b || list_any test xs) each.0 ∙ ap (λ b. other x || b) (any_same test other xs each.1)
-
--- a sector lies in a run of one sector where it is its place
-lies_in-one : (s place n : ℕ) → n ≡ 1 → (place == s) ≡ lies_in s place n
-lies_in-one s place n one = grind (arith, nat_tests)
+-- and so are their places
+places_are : (pointers : List Pointer) → places_of (map spot_in pointers) ≡ map (λ (p : Pointer). p.place) pointers
+places_are [] = refl
+places_are (p ∷ pointers) = ap (λ (places : List ℕ). p.place ∷ places) (places_are pointers)
 
 -- a test that fails
 unnot : (b : Bool) → not b ≡ true → b ≡ false
@@ -121,33 +113,21 @@ module _ (seal : Seal) (flat : Flat) (grounds : Grounds seal flat) where
   waiting_roomed : AllByRecursion (IsRoomed seal.sectors) waiting
   waiting_roomed = every_filter (IsRoomed seal.sectors) (λ e. e.home.count == 0) (entries_found table) (found_roomed seal flat grounds)
 
-  length-ring : length (ring_used seal.sectors) ≡ seal.sectors
-  length-ring = length-map-range_with_len (λ s. nat_lt s 32) 0 seal.sectors
-
   length-pages : length on_pages ≡ seal.sectors
-  length-pages = length-marked flat.named (ring_used seal.sectors) ∙ length-ring
+  length-pages = length-marked flat.named (ring_used seal.sectors) ∙ length-ring_used seal.sectors
 
   length-spots : length with_spots ≡ seal.sectors
   length-spots = length-marked (places_of spots) on_pages ∙ length-pages
 
-  ring-at : (s : ℕ) → s < seal.sectors → get_or (ring_used seal.sectors) s false ≡ nat_lt s 32
-  ring-at s within = get_or-map-range_with_len (λ n. nat_lt n 32) 0 seal.sectors s s false within (omega arith)
-
   pages-at : (s : ℕ) → s < seal.sectors → get_or on_pages s false ≡ (nat_lt s 32 || list_any (λ page. page == s) flat.named)
   pages-at s within =
-      marked-at flat.named (ring_used seal.sectors) s (omega (arith, within, length-ring))
-      ∙ ap (λ b. b || list_any (λ page. page == s) flat.named) (ring-at s within)
+      marked-at flat.named (ring_used seal.sectors) s false (omega (arith, within, length-ring_used seal.sectors))
+      ∙ ap (λ b. b || list_any (λ page. page == s) flat.named) (ring_used-at seal.sectors s false within)
 
   spots-at : (s : ℕ) → s < seal.sectors → get_or with_spots s false ≡ ((nat_lt s 32 || list_any (λ page. page == s) flat.named) || list_any (λ place. place == s) (places_of spots))
   spots-at s within =
-      marked-at (places_of spots) on_pages s (omega (arith, within, length-pages))
+      marked-at (places_of spots) on_pages s false (omega (arith, within, length-pages))
       ∙ ap (λ b. b || list_any (λ place. place == s) (places_of spots)) (pages-at s within)
-
-  waits-at : (s : ℕ) → s < seal.sectors → get_or (marked with_spots (places_in waiting)) s false
-      ≡ (((nat_lt s 32 || list_any (λ page. page == s) flat.named) || list_any (λ place. place == s) (places_of spots)) || list_any (λ place. place == s) (places_in waiting))
-  waits-at s within =
-      marked-at (places_in waiting) with_spots s (omega (arith, within, length-spots))
-      ∙ ap (λ b. b || list_any (λ place. place == s) (places_in waiting)) (spots-at s within)
 
   -- the answers of all tests
   pub record Passed (used : List Bool) : Type 0 where
@@ -271,28 +251,12 @@ module _ (seal : Seal) (flat : Flat) (grounds : Grounds seal flat) where
 
     -- ---- The sectors that are used
 
-    used_is : marked with_spots (places_in waiting) ≡ used_sectors seal.sectors flat.named pool table
-    used_is = fill_by_all (is_used flat.named pool table) (marked with_spots (places_in waiting)) seal.sectors false (length-marked (places_in waiting) with_spots ∙ length-spots) each
-      where
-        by_pointers : (s : ℕ) → list_any (λ place. place == s) (places_of spots) ≡ list_any (λ (p : Pointer). lies_in s p.place (run_length p.key)) pool.pointers
-        by_pointers s =
-            any_map (λ place. place == s) (λ (spot : Spot). spot.place) spots
-            ∙ ap (list_any (λ (spot : Spot). spot.place == s)) (sym same_spots)
-            ∙ any_map (λ (spot : Spot). spot.place == s) spot_in pool.pointers
-            ∙ any_same (λ (p : Pointer). p.place == s) (λ (p : Pointer). lies_in s p.place (run_length p.key)) pool.pointers
-            (every_weaker (IsSound table seal.sectors seal.group) (λ (p : Pointer). (p.place == s) ≡ lies_in s p.place (run_length p.key)) (λ p is. lies_in-one s p.place (run_length p.key) is.ranged.run) pool.pointers sound)
-
-        by_waits : (s : ℕ) → list_any (λ place. place == s) (places_in waiting) ≡ list_any (λ (e : Entry). lies_in s e.home.place (run_length e.key)) waiting
-        by_waits s =
-            any_map (λ place. place == s) (λ (e : Entry). e.home.place) waiting
-            ∙ any_same (λ (e : Entry). e.home.place == s) (λ (e : Entry). lies_in s e.home.place (run_length e.key)) waiting
-            (every_weaker (IsRoomed seal.sectors) (λ (e : Entry). (e.home.place == s) ≡ lies_in s e.home.place (run_length e.key)) (λ e roomed. lies_in-one s e.home.place (run_length e.key) roomed.run) waiting waiting_roomed)
-
-        each : (s : ℕ) → s < seal.sectors → get_or (marked with_spots (places_in waiting)) s false ≡ is_used flat.named pool table s
-        each s within =
-            waits-at s within
-            ∙ ap (λ b. ((nat_lt s 32 || list_any (λ page. page == s) flat.named) || b) || list_any (λ place. place == s) (places_in waiting)) (by_pointers s)
-            ∙ ap (λ b. ((nat_lt s 32 || list_any (λ page. page == s) flat.named) || list_any (λ (p : Pointer). lies_in s p.place (run_length p.key)) pool.pointers) || b) (by_waits s)
+    marked_is : marked with_spots (places_in waiting) ≡ used_sectors seal.sectors flat.named pool table
+    marked_is =
+        ap (λ (places : List ℕ). marked (marked on_pages places) (places_in waiting)) (ap places_of (sym same_spots) ∙ places_are pool.pointers)
+        ∙ used_is seal.sectors flat.named pool table
+        (every_weaker (IsSound table seal.sectors seal.group) (λ (p : Pointer). run_length p.key ≡ 1) (λ p is. is.ranged.run) pool.pointers sound)
+        (every_weaker (IsRoomed seal.sectors) (λ (e : Entry). run_length e.key ≡ 1) (λ e roomed. roomed.run) waiting waiting_roomed)
 
     -- ---- The whole
 
@@ -318,7 +282,7 @@ module _ (seal : Seal) (flat : Flat) (grounds : Grounds seal flat) where
             pointers_clear = clear_if passed.are_clear;
             waiting_clear = every_weaker IsAlone (λ (e : Entry). IsClear flat.named e.home.place) (λ e is. is.page) waiting alone;
           },
-          took.used_then ∙ used_is,
+          took.used_then ∙ marked_is,
         )
 
     -- what is whole passes all tests
