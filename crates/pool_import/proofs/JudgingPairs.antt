@@ -79,12 +79,12 @@ shares_home table p q known other shared =
       since = one.since ∙ ap (λ (h : Home). h.since) same ∙ sym two.since;
     }
 
--- what is known of each
-pub record IsSound (table : TableState) (sectors group : ℕ) (p : Pointer) : Type 0 where
+-- what is known of each: its numbers are in their ranges, and its mark is what the table makes of it
+pub record IsInOrder (table : TableState) (sectors group : ℕ) (p : Pointer) : Type 0 where
   pub ranged : IsRanged sectors group p
   pub known : IsKnown table p
 
-module _ (table : TableState) (sectors group : ℕ) (p q : Pointer) (one : IsSound table sectors group p) (other : IsSound table sectors group q) where
+module _ (table : TableState) (sectors group : ℕ) (p q : Pointer) (one : IsInOrder table sectors group p) (other : IsInOrder table sectors group q) where
   two_blocks : go_apart (spot_in p) (spot_in q) ≡ true → is_shared p q ≡ false → IsApart p.place (run_length p.key) q.place (run_length q.key)
   two_blocks apart alone =
       apart_if p.place q.place (run_length p.key) (run_length q.key) one.ranged.run other.ranged.run
@@ -113,16 +113,16 @@ slots_differ image table slots rising =
     any (x ∷ xs) = (tt, any xs)
 
 -- pointers in other slots, each two of which lie apart or share, go together
-pub together_if_apart : (table : TableState) (sectors group : ℕ) (ps : List Pointer) → AllByRecursion (IsSound table sectors group) ps → Pairwise (λ (p q : Pointer). is_at p.lane p.slot q ≡ false) ps
+pub together_if_apart : (table : TableState) (sectors group : ℕ) (ps : List Pointer) → AllByRecursion (IsInOrder table sectors group) ps → Pairwise (λ (p q : Pointer). is_at p.lane p.slot q ≡ false) ps
     → Pairwise (λ a b. go_apart a b ≡ true) (map spot_in ps) → Pairwise GoTogether ps
 together_if_apart table sectors group ps sound slots apart_all =
-    pairs_weaker (IsSound table sectors group) (λ (p q : Pointer). (is_at p.lane p.slot q ≡ false) × (go_apart (spot_in p) (spot_in q) ≡ true)) GoTogether
+    pairs_weaker (IsInOrder table sectors group) (λ (p q : Pointer). (is_at p.lane p.slot q ≡ false) × (go_apart (spot_in p) (spot_in q) ≡ true)) GoTogether
     (λ p q one other both. together table sectors group p q one other both.0 both.1) ps sound
     (pairs_both (λ (p q : Pointer). is_at p.lane p.slot q ≡ false) (λ (p q : Pointer). go_apart (spot_in p) (spot_in q) ≡ true) (λ (p q : Pointer). (is_at p.lane p.slot q ≡ false) × (go_apart (spot_in p) (spot_in q) ≡ true))
     (λ p q one other. (one, other)) ps slots (pairs_unmap (λ a b. go_apart a b ≡ true) spot_in ps apart_all))
 
 -- and back
-pub apart_if_together : (table : TableState) (sectors group : ℕ) (ps : List Pointer) → AllByRecursion (IsSound table sectors group) ps → Pairwise GoTogether ps → Pairwise (λ a b. go_apart a b ≡ true) (map spot_in ps)
+pub apart_if_together : (table : TableState) (sectors group : ℕ) (ps : List Pointer) → AllByRecursion (IsInOrder table sectors group) ps → Pairwise GoTogether ps → Pairwise (λ a b. go_apart a b ≡ true) (map spot_in ps)
 apart_if_together table sectors group ps sound pairs =
     pairs_map (λ a b. go_apart a b ≡ true) spot_in ps
-    (pairs_weaker (IsSound table sectors group) GoTogether (λ (p q : Pointer). go_apart (spot_in p) (spot_in q) ≡ true) (λ p q one other go. apart table sectors group p q one other go) ps sound pairs)
+    (pairs_weaker (IsInOrder table sectors group) GoTogether (λ (p q : Pointer). go_apart (spot_in p) (spot_in q) ≡ true) (λ p q one other go. apart table sectors group p q one other go) ps sound pairs)

@@ -7,8 +7,8 @@ use Rattle.std.proofs.lemmas.List.{length-set}
 use Rattle.pool_model.specs.Pool.{Pairwise}
 use Rattle.grant_book.specs.Sectors.{marked}
 use Rattle.grant_book.proofs.MarkLaws.{marked-at}
+use Rattle.table_state.proofs.Lists.{all_from, all_from_both}
 use Rattle.pool_import.specs.Marks.{taken}
-use Rattle.pool_import.proofs.JudgingLists.{every_weaker, every_both}
 
 -- ---- Marks
 
@@ -37,7 +37,7 @@ IsIn used place = place < length used
 
 -- places stay on the disk
 in_set : (used : List Bool) (place : ℕ) (places : List ℕ) → AllByRecursion (IsIn used) places → AllByRecursion (IsIn (set used place true)) places
-in_set used place places within = every_weaker (IsIn used) (IsIn (set used place true)) (λ q lt. omega (arith, lt, length-set used place true)) places within
+in_set used place places within = all_from (IsIn used) (IsIn (set used place true)) (λ q lt. omega (arith, lt, length-set used place true)) places within
 
 -- what is free and isn't taken stays free
 still_free : (used : List Bool) (place q : ℕ) → IsIn used q → IsFree used q → Differ place q → IsFree (set used place true) q
@@ -58,8 +58,8 @@ taken_if_free [] used within free differ = refl
 taken_if_free (place ∷ places) used within free differ =
     ap (λ b. if b then None else taken (slice_set used place true) places) free.0
     ∙ taken_if_free places (set used place true) (in_set used place places within.1)
-    (every_both (λ q. IsIn used q × IsFree used q) (Differ place) (IsFree (set used place true)) (λ q is other. still_free used place q is.0 is.1 other) places
-    (every_both (IsIn used) (IsFree used) (λ q. IsIn used q × IsFree used q) (λ q one other. (one, other)) places within.1 free.1) differ.0)
+    (all_from_both (λ q. IsIn used q × IsFree used q) (Differ place) (IsFree (set used place true)) (λ q is other. still_free used place q is.0 is.1 other) places
+    (all_from_both (IsIn used) (IsFree used) (λ q. IsIn used q × IsFree used q) (λ q one other. (one, other)) places within.1 free.1) differ.0)
     differ.1
 
 -- what was taken tells
@@ -82,9 +82,9 @@ free_if_taken (place ∷ places) used after within is =
     by_use true here none again = absurd (cc none)
     by_use false here rest again =
         let later = again rest in
-        let each : AllByRecursion (λ q. IsFree used q × Differ place q) places = every_both (IsIn used) (IsFree (set used place true)) (λ q. IsFree used q × Differ place q) (was_free used place) places within.1 later.free in
+        let each : AllByRecursion (λ q. IsFree used q × Differ place q) places = all_from_both (IsIn used) (IsFree (set used place true)) (λ q. IsFree used q × Differ place q) (was_free used place) places within.1 later.free in
         record {
-          free = (here, every_weaker (λ q. IsFree used q × Differ place q) (IsFree used) (λ q both. both.0) places each);
-          differ = (every_weaker (λ q. IsFree used q × Differ place q) (Differ place) (λ q both. both.1) places each, later.differ);
+          free = (here, all_from (λ q. IsFree used q × Differ place q) (IsFree used) (λ q both. both.0) places each);
+          differ = (all_from (λ q. IsFree used q × Differ place q) (Differ place) (λ q both. both.1) places each, later.differ);
           used_then = later.used_then;
         }
