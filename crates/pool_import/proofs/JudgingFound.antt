@@ -3,8 +3,7 @@ use Rattle.std.proofs.Common.{◌≡◌, Bool, true, false, cond, not, List, [],
 use Rattle.std.specs.Prelude.{fold, if◌then◌else◌}
 use Rattle.std.specs.List.{AllByRecursion, find}
 use Rattle.std.specs.Option.{option_map}
-use Rattle.std.specs.Ordering.{is_eq, is_lt, ordering_reverse}
-use Rattle.std.specs.declared.cmp.Ordering.{Ordering}
+use Rattle.std.specs.Ordering.{is_eq, is_lt}
 use Rattle.std.specs.declared.cmp.Ordering.TheVariants.{Less, Equal, Greater}
 use Rattle.std.proofs.lemmas.Bool.{false≢true}
 use Rattle.ddt_entry.specs.Keys.{key_cmp, key_eq}
@@ -15,28 +14,14 @@ use Rattle.ddt_entry.specs.declared.entry.Entry.{Entry}
 use Rattle.ddt_entry.specs.declared.entry.Change.{Change}
 use Rattle.ddt_entry.specs.declared.entry.Change.TheVariants as changes
 use Rattle.ddt_entry.proofs.KeyLaws.{key_cmp_total, exact_keys, is_eq-key_cmp, key_eq-true, key_eq-same, key_eq-symm}
-use Rattle.pool_model.specs.Table.{TableState, home_in, entry_at, change_at, found_over, found, set_entry, drop_entry, set_found, entries_found, set_change}
-use Rattle.table_state.specs.Flat.{AreRising, last_changes}
+use Rattle.pool_model.specs.Table.{TableState, home_in, entry_at, change_at, found_over, found, set_entry, drop_entry, set_found, entries_found}
+use Rattle.table_state.specs.Flat.{AreRising}
 use Rattle.table_state.specs.Tables.{AreChangesRising, IsTable}
-use Rattle.pool_import.proofs.JudgingLists.{every_weaker, every_both, every_filter, pairs_filter}
+use Rattle.table_state.proofs.Lists.{all_filter, all_from, all_from_both, pairs_filter}
+use Rattle.table_state.proofs.Sorted.{less_of, all_put, rising_put}
+use Rattle.table_state.proofs.TablePuts.{entries_put, apart_by_order}
 
 -- ---- Orders
-
--- the order in which a test of `<` holds
-less_of : (o : Ordering) → is_lt o ≡ true → o ≡ Less
-less_of Less is = refl
-less_of Equal is = absurd (false≢true is)
-less_of Greater is = absurd (false≢true is)
-
--- an earlier key is another
-less_apart : (o : Ordering) → is_lt o ≡ true → is_eq o ≡ false
-less_apart Less is = refl
-less_apart Equal is = absurd (false≢true is)
-less_apart Greater is = refl
-
--- the same of keys
-pub earlier_apart : (a b : Key) → is_lt (key_cmp a b) ≡ true → key_eq a b ≡ false
-earlier_apart a b before = sym (is_eq-key_cmp a b) ∙ less_apart (key_cmp a b) before
 
 -- what comes before an earlier key comes before a later one
 pub earlier_yet : (a b c : Key) → is_lt (key_cmp a b) ≡ true → is_lt (key_cmp b c) ≡ true → is_lt (key_cmp a c) ≡ true
@@ -44,28 +29,9 @@ earlier_yet a b c one other = ap is_lt (key_cmp_total.trans a b c (less_of (key_
 
 -- ---- What a change makes of entries
 
--- what holds of each entry and of a new one holds once it is set
-every_set : (P : Entry → Type 0) (e : Entry) (es : List Entry) → P e → AllByRecursion P es → AllByRecursion P (set_entry e es)
-every_set P e [] here each = (here, tt)
-every_set P e (f ∷ fs) here each =
-    let rest = every_set P e fs here each.1 in
-    elim (key_cmp e.key f.key) as (λ o. AllByRecursion P (if is_lt o then e ∷ f ∷ fs else (if is_eq o then e ∷ fs else f ∷ set_entry e fs)))
-    [ Less ↦ (here, each) | Equal ↦ (here, each.1) | Greater ↦ (each.0, rest) ]
-
 -- one entry comes before another
 abbrev pub IsBefore : Entry → Entry → Type 0
 IsBefore a b = is_lt (key_cmp a.key b.key) ≡ true
-
--- entries that rise do so once one is set
-rising_set : (e : Entry) (es : List Entry) → AreRising es → AreRising (set_entry e es)
-rising_set e [] rising = (tt, tt)
-rising_set e (f ∷ fs) rising =
-    let rest = rising_set e fs rising.1 in
-    elim (key_cmp e.key f.key) as (λ o. (key_cmp e.key f.key ≡ o) → AreRising (if is_lt o then e ∷ f ∷ fs else (if is_eq o then e ∷ fs else f ∷ set_entry e fs))) [
-      | Less ↦ λ is. ((ap is_lt is, every_weaker (IsBefore f) (IsBefore e) (λ x later. earlier_yet e.key f.key x.key (ap is_lt is) later) fs rising.0), rising)
-      | Equal ↦ λ is. (every_weaker (IsBefore f) (IsBefore e) (λ x later. ap (λ (k : Key). is_lt (key_cmp k x.key)) (exact_keys e.key f.key is) ∙ later) fs rising.0, rising.1)
-      | Greater ↦ λ is. (every_set (IsBefore f) e fs (ap is_lt (key_cmp_total.antisymm f.key e.key ∙ ap ordering_reverse is)) rising.0, rest)
-    ] refl
 
 -- what is found after an entry was set
 entry_at-set : (key : Key) (e : Entry) (es : List Entry) → entry_at key (set_entry e es) ≡ (if key_eq e.key key then Some e.home else entry_at key es)
@@ -146,8 +112,8 @@ entry_at-log key (change ∷ log) es rising =
     others : key_eq (key_in change) key ≡ true → change_at key log ≡ None
     others is =
         no_change key log
-        (every_weaker (λ (x : Change). is_lt (key_cmp (key_in change) (key_in x)) ≡ true) (λ (x : Change). key_eq (key_in x) key ≡ false)
-        (λ x later. key_eq-symm (key_in x) key ∙ ap (λ (k : Key). key_eq k (key_in x)) (sym (key_eq-true (key_in change) key is)) ∙ earlier_apart (key_in change) (key_in x) later)
+        (all_from (λ (x : Change). is_lt (key_cmp (key_in change) (key_in x)) ≡ true) (λ (x : Change). key_eq (key_in x) key ≡ false)
+        (λ x later. key_eq-symm (key_in x) key ∙ ap (λ (k : Key). key_eq k (key_in x)) (sym (key_eq-true (key_in change) key is)) ∙ apart_by_order (key_in change) (key_in x) later)
         log rising.0)
 
     by_test : (b : Bool) → key_eq (key_in change) key ≡ b
@@ -166,7 +132,7 @@ found-is table key is =
 -- entries that rise do so behind a log
 rising_log : (log : List Change) (es : List Entry) → AreRising es → AreRising (fold set_found es log)
 rising_log [] es rising = rising
-rising_log (changes.Entry entry ∷ log) es rising = rising_log log (set_entry entry es) (rising_set entry es rising)
+rising_log (changes.Entry entry ∷ log) es rising = rising_log log (set_entry entry es) (rising_put entries_put entry es rising)
 rising_log (changes.Gone key ∷ log) es rising = rising_log log (drop_entry key es) (pairs_filter IsBefore (λ entry. not (key_eq entry.key key)) es rising)
 
 -- what a table finds rises
@@ -178,8 +144,8 @@ pub each_found : (es : List Entry) → AreRising es → AllByRecursion (λ entry
 each_found [] rising = tt
 each_found (f ∷ fs) rising = (
   ap (λ b. option_map (λ (x : Entry). x.home) (cond b (Some f) (find (λ (x : Entry). key_eq x.key f.key) fs))) (key_eq-same f.key),
-  every_both (IsBefore f) (λ (e : Entry). entry_at e.key fs ≡ Some e.home) (λ (e : Entry). entry_at e.key (f ∷ fs) ≡ Some e.home)
-      (λ e later there. ap (λ b. option_map (λ (x : Entry). x.home) (cond b (Some f) (find (λ (x : Entry). key_eq x.key e.key) fs))) (earlier_apart f.key e.key later) ∙ there)
+  all_from_both (IsBefore f) (λ (e : Entry). entry_at e.key fs ≡ Some e.home) (λ (e : Entry). entry_at e.key (f ∷ fs) ≡ Some e.home)
+      (λ e later there. ap (λ b. option_map (λ (x : Entry). x.home) (cond b (Some f) (find (λ (x : Entry). key_eq x.key e.key) fs))) (apart_by_order f.key e.key later) ∙ there)
       fs rising.0 (each_found fs rising.1),
 )
 
@@ -197,30 +163,8 @@ of_found Q key home (f ∷ fs) each there = by_test (key_eq f.key key) each.0 th
 module _ (P : Entry → Type 0) (Q : Change → Type 0) (entry_of : (entry : Entry) → Q (changes.Entry entry) → P entry) where
   every_log : (log : List Change) (es : List Entry) → AllByRecursion Q log → AllByRecursion P es → AllByRecursion P (fold set_found es log)
   every_log [] es logged each = each
-  every_log (changes.Entry entry ∷ log) es logged each = every_log log (set_entry entry es) logged.1 (every_set P entry es (entry_of entry logged.0) each)
-  every_log (changes.Gone key ∷ log) es logged each = every_log log (drop_entry key es) logged.1 (every_filter P (λ entry. not (key_eq entry.key key)) es each)
+  every_log (changes.Entry entry ∷ log) es logged each = every_log log (set_entry entry es) logged.1 (all_put entries_put P entry es (entry_of entry logged.0) each)
+  every_log (changes.Gone key ∷ log) es logged each = every_log log (drop_entry key es) logged.1 (all_filter P (λ entry. not (key_eq entry.key key)) es each)
 
   pub every_found : (table : TableState) → AllByRecursion P table.zap → AllByRecursion Q table.flush → AllByRecursion Q table.active → AllByRecursion P (entries_found table)
   every_found table zap flush active = every_log table.active (fold set_found table.zap table.flush) active (every_log table.flush table.zap flush zap)
-
--- what holds of both classes holds of the stored table
-pub every_class : (P : Entry → Type 0) (more es : List Entry) → AllByRecursion P more → AllByRecursion P es → AllByRecursion P (fold (λ entries entry. set_entry entry entries) es more)
-every_class P [] es each there = there
-every_class P (entry ∷ more) es each there = every_class P more (set_entry entry es) each.1 (every_set P entry es each.0 there)
-
--- what holds of each change and of a new one holds once it is set
-every_set_change : (Q : Change → Type 0) (c : Change) (log : List Change) → Q c → AllByRecursion Q log → AllByRecursion Q (set_change c log)
-every_set_change Q c [] here each = (here, tt)
-every_set_change Q c (d ∷ log) here each =
-    let rest = every_set_change Q c log here each.1 in
-    elim (key_cmp (key_in c) (key_in d)) as (λ o. AllByRecursion Q (if is_lt o then c ∷ d ∷ log else (if is_eq o then c ∷ log else d ∷ set_change c log)))
-    [ Less ↦ (here, each) | Equal ↦ (here, each.1) | Greater ↦ (each.0, rest) ]
-
--- what holds of each change of a log holds of the last ones
-every_last_from : (Q : Change → Type 0) (log sorted : List Change) → AllByRecursion Q log → AllByRecursion Q sorted → AllByRecursion Q (fold (λ sorted change. set_change change sorted) sorted log)
-every_last_from Q [] sorted each there = there
-every_last_from Q (c ∷ log) sorted each there = every_last_from Q log (set_change c sorted) each.1 (every_set_change Q c sorted each.0 there)
-
--- the same from nothing on
-pub every_last : (Q : Change → Type 0) (log : List Change) → AllByRecursion Q log → AllByRecursion Q (last_changes log)
-every_last Q log each = every_last_from Q log [] each tt

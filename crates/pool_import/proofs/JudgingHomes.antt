@@ -17,9 +17,10 @@ use Rattle.pool_model.specs.Table.{TableState, entry_at, entries_found, found, c
 use Rattle.table_state.specs.Flat.{pointer_of, mark_by, mark_of, counted_homes}
 use Rattle.table_state.specs.Tables.{IsTable}
 use Rattle.table_state.specs.declared.slot_record.SlotRecord.{SlotRecord}
+use Rattle.table_state.proofs.Lists.{all_filter, all_from, all_from_both, all_tested}
 use Rattle.pool_import.specs.Marks.{spot_in, counts_for, is_counted}
 use Rattle.pool_import.specs.declared.marks.Spot.{Spot}
-use Rattle.pool_import.proofs.JudgingLists.{every_weaker, every_both, every_filter, every_passed, every_unfilter, none_passes, list_all-each, each-list_all}
+use Rattle.pool_import.proofs.JudgingLists.{every_unfilter, none_passes, list_all-each, each-list_all}
 use Rattle.pool_import.proofs.JudgingFound.{found-is, rising_found, each_found, of_found}
 
 -- ---- Pointers as the table knows them
@@ -103,7 +104,7 @@ home_at table key p known is =
 -- none is tracked at a key with no counted home
 none_at : (table : TableState) (key : Key) (ps : List Pointer) → AllByRecursion (IsKnown table) ps → ((home : Home) → found table key ≡ Some home → nat_lt 0 home.count ≡ true → ⊥) → filter (tracks key) ps ≡ []
 none_at table key ps known never =
-    none_passes (tracks key) ps (every_weaker (IsKnown table) (λ p. tracks key p ≡ false) (λ p is. by_test p is (tracks key p) refl) ps known)
+    none_passes (tracks key) ps (all_from (IsKnown table) (λ p. tracks key p ≡ false) (λ p is. by_test p is (tracks key p) refl) ps known)
   where
     by_test : (p : Pointer) → IsKnown table p → (b : Bool) → tracks key p ≡ b → tracks key p ≡ false
     by_test p is false tracked_is = tracked_is
@@ -143,7 +144,7 @@ module _ (pool : Pool) (table : TableState) (is : IsTable table) (known : AllByR
   -- what each pointer at a key shares, once the key's home is known
   all_share : (key : Key) (home : Home) → found table key ≡ Some home → AllByRecursion (Shares home) (tracked_at pool key)
   all_share key home found_is =
-      every_both (λ p. tracks key p ≡ true) (IsKnown table) (Shares home) shares (tracked_at pool key) (every_passed (tracks key) pool.pointers) (every_filter (IsKnown table) (tracks key) pool.pointers known)
+      all_from_both (λ p. tracks key p ≡ true) (IsKnown table) (Shares home) shares (tracked_at pool key) (all_tested (λ p. tracks key p ≡ true) (tracks key) (λ p passed. passed) pool.pointers) (all_filter (IsKnown table) (tracks key) pool.pointers known)
     where
       shares : (p : Pointer) → tracks key p ≡ true → IsKnown table p → Shares home p
       shares p tracked_is of =
@@ -161,7 +162,7 @@ module _ (pool : Pool) (table : TableState) (is : IsTable table) (known : AllByR
       sym (count_at-is key pool.pointers)
       ∙ eqb-true (count_by (counts_for key) spots) home.count
       (of_found (λ h. nat_lt 0 h.count ≡ true → (count_by (counts_for key) spots == h.count) ≡ true) key home (entries_found table)
-      (every_weaker (λ (e : Entry). nat_lt 0 e.home.count ≡ true → is_counted spots e ≡ true) (λ (e : Entry). key_eq e.key key ≡ true → nat_lt 0 e.home.count ≡ true → (count_by (counts_for key) spots == e.home.count) ≡ true)
+      (all_from (λ (e : Entry). nat_lt 0 e.home.count ≡ true → is_counted spots e ≡ true) (λ (e : Entry). key_eq e.key key ≡ true → nat_lt 0 e.home.count ≡ true → (count_by (counts_for key) spots == e.home.count) ≡ true)
       (λ e right at counts. ap (λ (k : Key). count_by (counts_for k) spots == e.home.count) (sym (key_eq-true e.key key at)) ∙ right counts)
       (entries_found table)
       (every_unfilter (λ (e : Entry). is_counted spots e ≡ true) (λ (e : Entry). nat_lt 0 e.home.count) (entries_found table) (list_all-each (is_counted spots) (counted_homes table) passed)))
@@ -188,10 +189,10 @@ module _ (pool : Pool) (table : TableState) (is : IsTable table) (known : AllByR
   pub counted_if_homes : ((key : Key) → counted (found table key) ≡ home_of_pointers (tracked_at pool key)) → list_all (is_counted spots) (counted_homes table) ≡ true
   counted_if_homes homes =
       each-list_all (is_counted spots) (counted_homes table)
-      (every_both (λ (e : Entry). nat_lt 0 e.home.count ≡ true) (λ (e : Entry). entry_at e.key (entries_found table) ≡ Some e.home) (λ (e : Entry). is_counted spots e ≡ true) right
+      (all_from_both (λ (e : Entry). nat_lt 0 e.home.count ≡ true) (λ (e : Entry). entry_at e.key (entries_found table) ≡ Some e.home) (λ (e : Entry). is_counted spots e ≡ true) right
       (counted_homes table)
-      (every_passed (λ (e : Entry). nat_lt 0 e.home.count) (entries_found table))
-      (every_filter (λ (e : Entry). entry_at e.key (entries_found table) ≡ Some e.home) (λ (e : Entry). nat_lt 0 e.home.count) (entries_found table) (each_found (entries_found table) (rising_found table is))))
+      (all_tested (λ (e : Entry). nat_lt 0 e.home.count ≡ true) (λ e. nat_lt 0 e.home.count) (λ e passed. passed) (entries_found table))
+      (all_filter (λ (e : Entry). entry_at e.key (entries_found table) ≡ Some e.home) (λ (e : Entry). nat_lt 0 e.home.count) (entries_found table) (each_found (entries_found table) (rising_found table is))))
     where
       as_many : (home : Home) (ps : List Pointer) → Some home ≡ home_of_pointers ps → length ps ≡ home.count
       as_many home [] same = absurd (cc same)

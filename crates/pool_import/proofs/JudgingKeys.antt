@@ -18,10 +18,12 @@ use Rattle.pool_model.specs.Pool.{is_tracked}
 use Rattle.table_state.specs.Flat.{AreRising, mark_of}
 use Rattle.table_state.specs.Tables.{IsTable}
 use Rattle.table_state.specs.declared.slot_record.SlotRecord.{SlotRecord}
+use Rattle.table_state.proofs.Lists.{all_each, all_from}
+use Rattle.table_state.proofs.TablePuts.{apart_by_order}
 use Rattle.pool_import.specs.Marks.{counts_for, spot_among, spot_of}
 use Rattle.pool_import.specs.declared.marks.Spot.{Spot}
-use Rattle.pool_import.proofs.JudgingLists.{every_at, every_of, every_weaker, every_push}
-use Rattle.pool_import.proofs.JudgingFound.{IsBefore, earlier_apart, earlier_yet, found-is}
+use Rattle.pool_import.proofs.JudgingLists.{every_at, every_push}
+use Rattle.pool_import.proofs.JudgingFound.{IsBefore, earlier_yet, found-is}
 
 -- what holds of each holds of the one at a place
 every_get : {X : Type 0} (P : X → Type 0) (xs : List X) (i : ℕ) (d : X) → AllByRecursion P xs → i < length xs → P (get_or xs i d)
@@ -55,7 +57,7 @@ all_below es at d key rising within less =
     let last : IsBelow key (get_or es at d) = ap is_lt less in
     subst (AllByRecursion (IsBelow key)) (sym (take_more es at d within))
     (every_push (IsBelow key) (take at es) (get_or es at d)
-    (every_weaker (λ x. IsBefore x (get_or es at d)) (IsBelow key) (λ x earlier. earlier_yet x.key (get_or es at d).key key earlier last) (take at es) (before_at es at d rising within)) last)
+    (all_from (λ x. IsBefore x (get_or es at d)) (IsBelow key) (λ x earlier. earlier_yet x.key (get_or es at d).key key earlier last) (take at es) (before_at es at d rising within)) last)
 
 -- the entry at a place is above: all from it on are
 pub all_above : (es : List Entry) (at : ℕ) (d : Entry) (key : Key) → AreRising es → at < length es → key_cmp (get_or es at d).key key ≡ Greater → AllByRecursion (IsAbove key) (drop at es)
@@ -65,7 +67,7 @@ all_above es at d key rising within greater =
     subst (AllByRecursion (IsAbove key)) (sym (at_drop_more (λ l. l) es at d within)) (
       first,
       subst (λ n. AllByRecursion (IsAbove key) (drop n es)) next
-          (every_weaker (IsBefore (get_or es at d)) (IsAbove key) (λ x later. earlier_yet key (get_or es at d).key x.key first later) (drop (suc at) es) (behind_at es at d rising within)),
+          (all_from (IsBefore (get_or es at d)) (IsAbove key) (λ x later. earlier_yet key (get_or es at d).key x.key first later) (drop (suc at) es) (behind_at es at d rising within)),
     )
 
 -- what holds of each of the front and of the rest holds of each
@@ -78,9 +80,9 @@ every_joined P (suc n) (x ∷ xs) front back = (front.0, every_joined P n xs fro
 pub none_of_key : (es : List Entry) (low high : ℕ) (key : Key) → low ≡ high → AllByRecursion (IsBelow key) (take low es) → AllByRecursion (IsAbove key) (drop high es) → AllByRecursion (λ e. key_eq e.key key ≡ false) es
 none_of_key es low high key met below above =
     every_joined (λ e. key_eq e.key key ≡ false) low es
-    (every_weaker (IsBelow key) (λ e. key_eq e.key key ≡ false) (λ e less. earlier_apart e.key key less) (take low es) below)
+    (all_from (IsBelow key) (λ e. key_eq e.key key ≡ false) (λ e less. apart_by_order e.key key less) (take low es) below)
     (subst (λ n. AllByRecursion (λ (e : Entry). key_eq e.key key ≡ false) (drop n es)) (sym met)
-    (every_weaker (IsAbove key) (λ e. key_eq e.key key ≡ false) (λ e more. key_eq-symm e.key key ∙ earlier_apart key e.key more) (drop high es) above))
+    (all_from (IsAbove key) (λ e. key_eq e.key key ≡ false) (λ e more. key_eq-symm e.key key ∙ apart_by_order key e.key more) (drop high es) above))
 
 -- an entry of the key was met
 pub met_at : (es : List Entry) (at : ℕ) (d : Entry) (key : Key) → at < length es → key_cmp (get_or es at d).key key ≡ Equal → (entry : Entry) × (slice_get es at ≡ Some entry) × (key_eq entry.key key ≡ true)
@@ -101,7 +103,7 @@ found_some (f ∷ fs) zero e key rising there same =
     ap (λ b. option_map (λ (x : Entry). x.home) (cond b (Some f) (find (λ (x : Entry). key_eq x.key key) fs))) (ap (λ (x : Entry). key_eq x.key key) one ∙ same) ∙ ap (λ (x : Entry). Some x.home) one
 found_some (f ∷ fs) (suc at) e key rising there same =
     ap (λ b. option_map (λ (x : Entry). x.home) (cond b (Some f) (find (λ (x : Entry). key_eq x.key key) fs)))
-    (ap (key_eq f.key) (sym (key_eq-true e.key key same)) ∙ earlier_apart f.key e.key (every_at (IsBefore f) fs at e rising.0 there))
+    (ap (key_eq f.key) (sym (key_eq-true e.key key same)) ∙ apart_by_order f.key e.key (every_at (IsBefore f) fs at e rising.0 there))
     ∙ found_some fs at e key rising.1 there same
 
 -- the home at the index of a key
@@ -123,9 +125,9 @@ bumped f g (x ∷ xs) zero e rising there more others =
     let one : x ≡ e = cc in
     let here : f x + 1 ≡ g x = ap (λ (y : Entry). f y + 1) one ∙ sym more ∙ ap g (sym one) in
     ap (λ n. n ∷ map f xs) here
-    ∙ ap (λ l. g x ∷ l) (same_map f g xs (every_weaker (IsBefore x) (λ y. f y ≡ g y) (λ y later. sym (others y (ap (λ (z : Entry). key_eq z.key y.key) (sym one) ∙ earlier_apart x.key y.key later))) xs rising.0))
+    ∙ ap (λ l. g x ∷ l) (same_map f g xs (all_from (IsBefore x) (λ y. f y ≡ g y) (λ y later. sym (others y (ap (λ (z : Entry). key_eq z.key y.key) (sym one) ∙ apart_by_order x.key y.key later))) xs rising.0))
 bumped f g (x ∷ xs) (suc at) e rising there more others =
-    ap (λ n. n ∷ set (map f xs) at (get_or (map f xs) at 0 + 1)) (sym (others x (key_eq-symm e.key x.key ∙ earlier_apart x.key e.key (every_at (IsBefore x) xs at e rising.0 there))))
+    ap (λ n. n ∷ set (map f xs) at (get_or (map f xs) at 0 + 1)) (sym (others x (key_eq-symm e.key x.key ∙ apart_by_order x.key e.key (every_at (IsBefore x) xs at e rising.0 there))))
     ∙ ap (λ l. g x ∷ l) (bumped f g xs at e rising.1 there more others)
 
 -- how many slots are counted under the key of a home
@@ -154,7 +156,7 @@ pub tallies_absent : (homes : List Entry) (spots : List Spot) (i : ℕ) (d : Spo
 tallies_absent homes spots i d within absent =
     let spot = get_or spots i d in
     same_map (tally (take i spots)) (tally (take (i + 1) spots)) homes
-    (every_weaker (λ (e : Entry). key_eq e.key spot.key ≡ false) (λ e. tally (take i spots) e ≡ tally (take (i + 1) spots) e)
+    (all_from (λ (e : Entry). key_eq e.key spot.key ≡ false) (λ e. tally (take i spots) e ≡ tally (take (i + 1) spots) e)
     (λ e other. sym (tally_more spots i d e within ∙ adds_none (tally (take i spots) e) (counts_for e.key spot) (and_none spot.tracked (key_eq spot.key e.key) (key_eq-symm spot.key e.key ∙ other)))) homes absent)
 
 -- a slot of a home's key is one more for that home
@@ -211,5 +213,5 @@ no_tallies (x ∷ xs) spots = ap (λ l. 0 ∷ l) (no_tallies xs spots)
 pub spots_among : (table : TableState) (slots : List SlotRecord) → IsTable table → map (spot_among (entries_found table)) slots ≡ map (spot_of table) slots
 spots_among table slots is =
     same_map (spot_among (entries_found table)) (spot_of table) slots
-    (every_of (λ slot. spot_among (entries_found table) slot ≡ spot_of table slot)
+    (all_each (λ slot. spot_among (entries_found table) slot ≡ spot_of table slot)
     (λ slot. ap (λ (o : Option Home). record { key = slot.pointer.key; place = slot.pointer.place; tracked = is_tracked (mark_of slot.pointer.kind o slot.pointer.place slot.pointer.birth) }) (sym (found-is table slot.pointer.key is))) slots)

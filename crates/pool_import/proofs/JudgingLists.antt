@@ -4,27 +4,13 @@ use Rattle.std.specs.Prelude.{filter, slice_get}
 use Rattle.std.specs.List.{AllByRecursion, list_all}
 use Rattle.std.proofs.lemmas.Bool.{false≢true, and_parts}
 use Rattle.pool_model.specs.Pool.{Pairwise}
+use Rattle.table_state.proofs.Lists.{all_from_both}
 
 -- what holds of each holds of the one at a place
 pub every_at : {X : Type 0} (P : X → Type 0) (xs : List X) (i : ℕ) (x : X) → AllByRecursion P xs → slice_get xs i ≡ Some x → P x
 every_at P [] i x each there = absurd (cc there)
 every_at P (y ∷ ys) zero x each there = let here : y ≡ x = cc in subst P here each.0
 every_at P (y ∷ ys) (suc i) x each there = every_at P ys i x each.1 there
-
--- what follows of each
-pub every_weaker : {X : Type 0} (P Q : X → Type 0) → ((x : X) → P x → Q x) → (xs : List X) → AllByRecursion P xs → AllByRecursion Q xs
-every_weaker P Q weaker [] each = tt
-every_weaker P Q weaker (x ∷ xs) each = (weaker x each.0, every_weaker P Q weaker xs each.1)
-
--- what two facts of each say together
-pub every_both : {X : Type 0} (P Q R : X → Type 0) → ((x : X) → P x → Q x → R x) → (xs : List X) → AllByRecursion P xs → AllByRecursion Q xs → AllByRecursion R xs
-every_both P Q R both [] first second = tt
-every_both P Q R both (x ∷ xs) first second = (both x first.0 second.0, every_both P Q R both xs first.1 second.1)
-
--- what holds of any holds of each
-pub every_of : {X : Type 0} (P : X → Type 0) → ((x : X) → P x) → (xs : List X) → AllByRecursion P xs
-every_of P holds [] = tt
-every_of P holds (x ∷ xs) = (holds x, every_of P holds xs)
 
 -- what holds of each image of a function
 pub every_map : {X Y : Type 0} (P : Y → Type 0) (f : X → Y) (xs : List X) → AllByRecursion (λ x. P (f x)) xs → AllByRecursion P (map f xs)
@@ -35,20 +21,6 @@ every_map P f (x ∷ xs) each = (each.0, every_map P f xs each.1)
 pub every_unmap : {X Y : Type 0} (P : Y → Type 0) (f : X → Y) (xs : List X) → AllByRecursion P (map f xs) → AllByRecursion (λ x. P (f x)) xs
 every_unmap P f [] each = tt
 every_unmap P f (x ∷ xs) each = (each.0, every_unmap P f xs each.1)
-
--- what is kept of a list keeps what holds of each
-pub every_filter : {X : Type 0} (P : X → Type 0) (test : X → Bool) (xs : List X) → AllByRecursion P xs → AllByRecursion P (filter test xs)
-every_filter P test [] each = tt
-every_filter P test (x ∷ xs) each =
-    let rest = every_filter P test xs each.1 in
-    elim (test x) as (λ b. AllByRecursion P (cond b (x ∷ filter test xs) (filter test xs))) [ true ↦ (each.0, rest) | false ↦ rest ]
-
--- what passed a test has passed it
-pub every_passed : {X : Type 0} (test : X → Bool) (xs : List X) → AllByRecursion (λ x. test x ≡ true) (filter test xs)
-every_passed test [] = tt
-every_passed test (x ∷ xs) =
-    let rest = every_passed test xs in
-    elim (test x) as (λ b. (test x ≡ b) → AllByRecursion (λ x. test x ≡ true) (cond b (x ∷ filter test xs) (filter test xs))) [ true ↦ λ here. (here, rest) | false ↦ λ _. rest ] refl
 
 -- one element more
 pub every_push : {X : Type 0} (P : X → Type 0) (xs : List X) (x : X) → AllByRecursion P xs → P x → AllByRecursion P (xs ++ x ∷ [])
@@ -79,23 +51,16 @@ pub pairs_unmap : {X Y : Type 0} (R : Y → Y → Type 0) (f : X → Y) (xs : Li
 pairs_unmap R f [] pairs = tt
 pairs_unmap R f (x ∷ xs) pairs = (every_unmap (R (f x)) f xs pairs.0, pairs_unmap R f xs pairs.1)
 
--- what is kept of a list keeps the relation
-pub pairs_filter : {X : Type 0} (R : X → X → Type 0) (test : X → Bool) (xs : List X) → Pairwise R xs → Pairwise R (filter test xs)
-pairs_filter R test [] pairs = tt
-pairs_filter R test (x ∷ xs) pairs =
-    let rest = pairs_filter R test xs pairs.1 in
-    elim (test x) as (λ b. Pairwise R (cond b (x ∷ filter test xs) (filter test xs))) [ true ↦ (every_filter (R x) test xs pairs.0, rest) | false ↦ rest ]
-
 -- two facts of each, and a relation between each two, say another
 pub pairs_weaker : {X : Type 0} (P : X → Type 0) (R S : X → X → Type 0) → ((a b : X) → P a → P b → R a b → S a b) → (xs : List X) → AllByRecursion P xs → Pairwise R xs → Pairwise S xs
 pairs_weaker P R S weaker [] each pairs = tt
 pairs_weaker P R S weaker (x ∷ xs) each pairs =
-    (every_both P (R x) (S x) (λ y holds related. weaker x y each.0 holds related) xs each.1 pairs.0, pairs_weaker P R S weaker xs each.1 pairs.1)
+    (all_from_both P (R x) (S x) (λ y holds related. weaker x y each.0 holds related) xs each.1 pairs.0, pairs_weaker P R S weaker xs each.1 pairs.1)
 
 -- two relations between each two say another
 pub pairs_both : {X : Type 0} (R S U : X → X → Type 0) → ((a b : X) → R a b → S a b → U a b) → (xs : List X) → Pairwise R xs → Pairwise S xs → Pairwise U xs
 pairs_both R S U both [] first second = tt
-pairs_both R S U both (x ∷ xs) first second = (every_both (R x) (S x) (U x) (both x) xs first.0 second.0, pairs_both R S U both xs first.1 second.1)
+pairs_both R S U both (x ∷ xs) first second = (all_from_both (R x) (S x) (U x) (both x) xs first.0 second.0, pairs_both R S U both xs first.1 second.1)
 
 -- what passed a test, as an implication on each
 pub every_unfilter : {X : Type 0} (P : X → Type 0) (test : X → Bool) (xs : List X) → AllByRecursion P (filter test xs) → AllByRecursion (λ x. test x ≡ true → P x) xs

@@ -9,9 +9,10 @@ use Rattle.ddt_entry.specs.Keys.{key_eq}
 use Rattle.ddt_entry.specs.declared.key.Key.{Key}
 use Rattle.ddt_entry.proofs.KeyLaws.{key_eq-true, key_eq-same}
 use Rattle.pool_model.specs.Pool.{Pairwise}
+use Rattle.table_state.proofs.Lists.{all_from}
 use Rattle.pool_import.specs.Marks.{are_shared, go_apart, shares_with, are_owned}
 use Rattle.pool_import.specs.declared.marks.Spot.{Spot}
-use Rattle.pool_import.proofs.JudgingLists.{every_at, every_weaker, every_push, pairs_before, pairs_push}
+use Rattle.pool_import.proofs.JudgingLists.{every_at, every_push, pairs_before, pairs_push}
 
 -- ---- Sharing
 
@@ -90,7 +91,7 @@ owner_shared done s i o x there lies each shared =
 owner_new : (done : List Spot) (s : ℕ) (x : Spot) → Lies s x → AllByRecursion (λ (y : Spot). (y.place == s) ≡ false) done → Owner (done ++ x ∷ []) s (length done + 1)
 owner_new done s x lies each =
     some (length done) x (slice_get-last done x) lies
-    (every_push (IsOf s x) done x (every_weaker (λ (y : Spot). (y.place == s) ≡ false) (IsOf s x) (λ y elsewhere here. absurd (false≢true (sym elsewhere ∙ here))) done each) (λ _. inl refl))
+    (every_push (IsOf s x) done x (all_from (λ (y : Spot). (y.place == s) ≡ false) (IsOf s x) (λ y elsewhere here. absurd (false≢true (sym elsewhere ∙ here))) done each) (λ _. inl refl))
 
 -- each sector has its owner
 record Owners (done : List Spot) (owners : List ℕ) : Type 0 where
@@ -187,7 +188,7 @@ step all done at owners x xs split here within inv = by_owner (get_or owners x.p
         → are_owned all at owners (x ∷ xs) ≡ (are_shared o x && are_owned all (at + 1) owners xs) → (b : Bool) → are_shared o x ≡ b → Step all done at owners x xs
     by_shared i o is there on each comes true shared =
         goes owners (comes ∙ ap (λ b. b && are_owned all (at + 1) owners xs) shared) refl (record { each = kept i o is there on each shared })
-        (every_weaker (IsOf x.place o) (IsApartFrom x) (λ y of. shared_apart x.place o x y refl shared of) done each)
+        (all_from (IsOf x.place o) (IsApartFrom x) (λ y of. shared_apart x.place o x y refl shared of) done each)
     by_shared i o is there on each comes false alone =
         stops (comes ∙ ap (λ b. b && are_owned all (at + 1) owners xs) alone)
         (λ apart. not_apart x.place o x refl on alone (every_at (IsApartFrom x) done i o apart there))
@@ -196,7 +197,7 @@ step all done at owners x xs split here within inv = by_owner (get_or owners x.p
     by_owner n is (none each) =
         goes (set owners x.place (at + 1)) (ap (λ b. if b then fresh else further (slice_index owners x.place)) (is_zero (slice_index owners x.place) is)) (length-set owners x.place (at + 1))
         (record { each = renewed each })
-        (every_weaker (λ (y : Spot). (y.place == x.place) ≡ false) (IsApartFrom x) (λ y elsewhere. elsewhere_apart x.place x y refl elsewhere) done each)
+        (all_from (λ (y : Spot). (y.place == x.place) ≡ false) (IsApartFrom x) (λ y elsewhere. elsewhere_apart x.place x y refl elsewhere) done each)
     by_owner n is (some i o there on each) =
         let found : slice_get all i ≡ Some o = ap (λ (l : List Spot). slice_get l i) split ∙ slice_get-front done (x ∷ xs) i o there in
         let index : slice_index owners x.place - 1 ≡ i = omega (arith, is) in

@@ -1,12 +1,10 @@
 -- Each two pointers of an image's pool go together exactly where they lie apart or share a home.
 use Rattle.std.proofs.Common.{◌≡◌, ◌≢◌, ℕ, ◌<◌, ◌≤◌, Bool, true, false, not, ◌&&◌, ◌||◌, ◌==◌, inl, inr, List, [], ◌∷◌, map, refl, sym, ap, ⊎_elim, ◌∙◌, arith, eq-eqb}
-use Rattle.std.specs.Prelude.{nat_lt, nat_le}
+use Rattle.std.specs.Prelude.{nat_lt}
 use Rattle.std.specs.List.{AllByRecursion}
-use Rattle.std.proofs.lemmas.Bool.{false≢true, and_parts, ltb-true, leb-true}
+use Rattle.std.proofs.lemmas.Bool.{false≢true, and_parts, ltb-true}
 use Rattle.std.proofs.lemmas.Bool.Decides.{nat_tests, eqb_tells}
 use Rattle.ddt_entry.specs.Keys.{key_eq}
-use Rattle.ddt_entry.specs.Records.{is_key_length}
-use Rattle.ddt_entry.specs.declared.key.Key.{Key}
 use Rattle.ddt_entry.specs.declared.entry.Home.{Home}
 use Rattle.ddt_entry.proofs.KeyLaws.{key_eq-true}
 use Rattle.disk_model.specs.Images.{Image}
@@ -15,19 +13,13 @@ use Rattle.pool_model.specs.Table.{TableState, found}
 use Rattle.table_state.specs.Flat.{stands_before, pointer_of}
 use Rattle.table_state.specs.SlotRecords.{is_slot}
 use Rattle.table_state.specs.declared.slot_record.SlotRecord.{SlotRecord}
+use Rattle.table_state.proofs.SlotLaws.{is_slot-from}
+use Rattle.table_state.proofs.UsedLaws.{one_sector}
 use Rattle.pool_import.specs.Marks.{spot_in, go_apart}
 use Rattle.pool_import.proofs.JudgingLists.{pairs_map, pairs_unmap, pairs_weaker, pairs_both}
 use Rattle.pool_import.proofs.JudgingHomes.{same_option, IsKnown}
 
 -- ---- Runs
-
--- a key of a length in its range has a run of one sector
-pub one_sector : (key : Key) → is_key_length key.len ≡ true → run_length key ≡ 1
-one_sector key is =
-    let parts = and_parts (nat_le 1 key.len) (nat_le key.len 4096) is in
-    let least = leb-true 1 key.len parts.0 in
-    let most = leb-true key.len 4096 parts.1 in
-    omega (arith, least, most)
 
 -- two runs of one sector are apart exactly where they are two
 pub apart_if : (place other n m : ℕ) → n ≡ 1 → m ≡ 1 → place ≢ other → IsApart place n other m
@@ -54,17 +46,8 @@ pub record IsRanged (sectors group : ℕ) (p : Pointer) : Type 0 where
 -- a slot in its ranges makes such a pointer
 pub ranged_of : (sectors group : ℕ) (image : Image) (table : TableState) (slot : SlotRecord) → is_slot sectors group slot ≡ true → IsRanged sectors group (pointer_of image table slot)
 ranged_of sectors group image table slot is =
-    let birth_most = and_parts _ (nat_le slot.pointer.birth group) is in
-    let birth_least = and_parts _ (nat_le 1 slot.pointer.birth) birth_most.0 in
-    let disk = and_parts _ (nat_lt slot.pointer.place sectors) birth_least.0 in
-    let least = and_parts _ (nat_le 32 slot.pointer.place) disk.0 in
-    let len = and_parts _ (is_key_length slot.pointer.key.len) least.0 in
-    record {
-      start = leb-true 32 slot.pointer.place least.1;
-      on_disk = ltb-true slot.pointer.place sectors disk.1;
-      group_is = leb-true slot.pointer.birth group birth_most.1;
-      run = one_sector slot.pointer.key len.1;
-    }
+    let ranges = is_slot-from sectors group slot is in
+    record { start = ranges.place.0; on_disk = ranges.place.1; group_is = ranges.birth.1; run = one_sector slot.pointer.key ranges.len }
 
 -- such a pointer lies within the disk
 pub within_of : (sectors group : ℕ) (p : Pointer) → IsRanged sectors group p → LiesWithin sectors group p
@@ -96,12 +79,12 @@ shares_home table p q known other shared =
       since = one.since ∙ ap (λ (h : Home). h.since) same ∙ sym two.since;
     }
 
--- what is known of each
-pub record IsSound (table : TableState) (sectors group : ℕ) (p : Pointer) : Type 0 where
+-- what is known of each: its numbers are in their ranges, and its mark is what the table makes of it
+pub record IsInOrder (table : TableState) (sectors group : ℕ) (p : Pointer) : Type 0 where
   pub ranged : IsRanged sectors group p
   pub known : IsKnown table p
 
-module _ (table : TableState) (sectors group : ℕ) (p q : Pointer) (one : IsSound table sectors group p) (other : IsSound table sectors group q) where
+module _ (table : TableState) (sectors group : ℕ) (p q : Pointer) (one : IsInOrder table sectors group p) (other : IsInOrder table sectors group q) where
   two_blocks : go_apart (spot_in p) (spot_in q) ≡ true → is_shared p q ≡ false → IsApart p.place (run_length p.key) q.place (run_length q.key)
   two_blocks apart alone =
       apart_if p.place q.place (run_length p.key) (run_length q.key) one.ranged.run other.ranged.run
@@ -130,16 +113,16 @@ slots_differ image table slots rising =
     any (x ∷ xs) = (tt, any xs)
 
 -- pointers in other slots, each two of which lie apart or share, go together
-pub together_if_apart : (table : TableState) (sectors group : ℕ) (ps : List Pointer) → AllByRecursion (IsSound table sectors group) ps → Pairwise (λ (p q : Pointer). is_at p.lane p.slot q ≡ false) ps
+pub together_if_apart : (table : TableState) (sectors group : ℕ) (ps : List Pointer) → AllByRecursion (IsInOrder table sectors group) ps → Pairwise (λ (p q : Pointer). is_at p.lane p.slot q ≡ false) ps
     → Pairwise (λ a b. go_apart a b ≡ true) (map spot_in ps) → Pairwise GoTogether ps
 together_if_apart table sectors group ps sound slots apart_all =
-    pairs_weaker (IsSound table sectors group) (λ (p q : Pointer). (is_at p.lane p.slot q ≡ false) × (go_apart (spot_in p) (spot_in q) ≡ true)) GoTogether
+    pairs_weaker (IsInOrder table sectors group) (λ (p q : Pointer). (is_at p.lane p.slot q ≡ false) × (go_apart (spot_in p) (spot_in q) ≡ true)) GoTogether
     (λ p q one other both. together table sectors group p q one other both.0 both.1) ps sound
     (pairs_both (λ (p q : Pointer). is_at p.lane p.slot q ≡ false) (λ (p q : Pointer). go_apart (spot_in p) (spot_in q) ≡ true) (λ (p q : Pointer). (is_at p.lane p.slot q ≡ false) × (go_apart (spot_in p) (spot_in q) ≡ true))
     (λ p q one other. (one, other)) ps slots (pairs_unmap (λ a b. go_apart a b ≡ true) spot_in ps apart_all))
 
 -- and back
-pub apart_if_together : (table : TableState) (sectors group : ℕ) (ps : List Pointer) → AllByRecursion (IsSound table sectors group) ps → Pairwise GoTogether ps → Pairwise (λ a b. go_apart a b ≡ true) (map spot_in ps)
+pub apart_if_together : (table : TableState) (sectors group : ℕ) (ps : List Pointer) → AllByRecursion (IsInOrder table sectors group) ps → Pairwise GoTogether ps → Pairwise (λ a b. go_apart a b ≡ true) (map spot_in ps)
 apart_if_together table sectors group ps sound pairs =
     pairs_map (λ a b. go_apart a b ≡ true) spot_in ps
-    (pairs_weaker (IsSound table sectors group) GoTogether (λ (p q : Pointer). go_apart (spot_in p) (spot_in q) ≡ true) (λ p q one other go. apart table sectors group p q one other go) ps sound pairs)
+    (pairs_weaker (IsInOrder table sectors group) GoTogether (λ (p q : Pointer). go_apart (spot_in p) (spot_in q) ≡ true) (λ p q one other go. apart table sectors group p q one other go) ps sound pairs)

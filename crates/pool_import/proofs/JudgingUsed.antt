@@ -1,53 +1,25 @@
 -- Which sectors are used once places are marked, and when each place is free until it is taken.
-use Rattle.std.proofs.Common.{◌≡◌, ℕ, ◌<◌, Bool, true, false, ◌||◌, ◌==◌, List, [], ◌∷◌, length, get_or, set, Some, None, refl, sym, ap, ⊎_elim, ◌∙◌, arith}
+use Rattle.std.proofs.Common.{◌≡◌, ℕ, ◌<◌, Bool, true, false, ◌||◌, ◌==◌, List, [], ◌∷◌, length, get_or, set, Some, None, refl, sym, ap, ◌∙◌, arith}
 use Rattle.std.specs.Prelude.{slice_set, if◌then◌else◌}
-use Rattle.std.specs.List.{AllByRecursion, list_any}
+use Rattle.std.specs.List.{AllByRecursion}
 use Rattle.std.proofs.lemmas.Bool.{false≢true}
-use Rattle.std.proofs.lemmas.Bool.Decides.{eqb_tells}
-use Rattle.std.proofs.lemmas.List.{length-set, get_or-set_same, get_or-set_other}
+use Rattle.std.proofs.lemmas.List.{length-set}
 use Rattle.pool_model.specs.Pool.{Pairwise}
-use Rattle.pool_import.specs.Marks.{marked, taken}
-use Rattle.pool_import.proofs.JudgingLists.{every_weaker, every_both}
+use Rattle.grant_book.specs.Sectors.{marked}
+use Rattle.grant_book.proofs.MarkLaws.{marked-at}
+use Rattle.table_state.proofs.Lists.{all_from, all_from_both}
+use Rattle.pool_import.specs.Marks.{taken}
 
 -- ---- Marks
-
--- marks leave the number of sectors
-pub length-marked : (places : List ℕ) (used : List Bool) → length (marked used places) ≡ length used
-length-marked [] used = refl
-length-marked (place ∷ places) used = length-marked places (set used place true) ∙ length-set used place true
-
--- a test or one that holds
-or_true : (b : Bool) → (b || true) ≡ true
-or_true true = refl
-or_true false = refl
 
 -- a test or one that fails
 or_false : (b : Bool) → (b || false) ≡ b
 or_false true = refl
 or_false false = refl
 
--- three tests, grouped anew
-or_swap : (a b c : Bool) → ((a || b) || c) ≡ (a || (b || c))
-or_swap true b c = refl
-or_swap false b c = refl
-
 -- one place more is used
 set_used : (used : List Bool) (place s : ℕ) → s < length used → get_or (set used place true) s false ≡ (get_or used s false || (place == s))
-set_used used place s within =
-    ⊎_elim
-    (λ same. let here : place < length used = omega (arith, same.1) in
-    ap (λ n. get_or (set used place true) n false) (sym same.1) ∙ get_or-set_same used place true false here ∙ sym (ap (λ b. get_or used s false || b) same.0 ∙ or_true (get_or used s false)))
-    (λ other. get_or-set_other used place s true false (λ e. other.1 (sym e)) ∙ sym (ap (λ b. get_or used s false || b) other.0 ∙ or_false (get_or used s false)))
-    (eqb_tells place s)
-
--- a sector is used after these places were marked
-pub marked-at : (places : List ℕ) (used : List Bool) (s : ℕ) → s < length used → get_or (marked used places) s false ≡ (get_or used s false || list_any (λ place. place == s) places)
-marked-at [] used s within = sym (or_false (get_or used s false))
-marked-at (place ∷ places) used s within =
-    let yet : s < length (set used place true) = omega (arith, length-set used place true) in
-    marked-at places (set used place true) s yet
-    ∙ ap (λ b. b || list_any (λ p. p == s) places) (set_used used place s within)
-    ∙ or_swap (get_or used s false) (place == s) (list_any (λ p. p == s) places)
+set_used used place s within = marked-at (place ∷ []) used s false within ∙ ap (λ b. get_or used s false || b) (or_false (place == s))
 
 -- ---- Taking
 
@@ -65,7 +37,7 @@ IsIn used place = place < length used
 
 -- places stay on the disk
 in_set : (used : List Bool) (place : ℕ) (places : List ℕ) → AllByRecursion (IsIn used) places → AllByRecursion (IsIn (set used place true)) places
-in_set used place places within = every_weaker (IsIn used) (IsIn (set used place true)) (λ q lt. omega (arith, lt, length-set used place true)) places within
+in_set used place places within = all_from (IsIn used) (IsIn (set used place true)) (λ q lt. omega (arith, lt, length-set used place true)) places within
 
 -- what is free and isn't taken stays free
 still_free : (used : List Bool) (place q : ℕ) → IsIn used q → IsFree used q → Differ place q → IsFree (set used place true) q
@@ -86,8 +58,8 @@ taken_if_free [] used within free differ = refl
 taken_if_free (place ∷ places) used within free differ =
     ap (λ b. if b then None else taken (slice_set used place true) places) free.0
     ∙ taken_if_free places (set used place true) (in_set used place places within.1)
-    (every_both (λ q. IsIn used q × IsFree used q) (Differ place) (IsFree (set used place true)) (λ q is other. still_free used place q is.0 is.1 other) places
-    (every_both (IsIn used) (IsFree used) (λ q. IsIn used q × IsFree used q) (λ q one other. (one, other)) places within.1 free.1) differ.0)
+    (all_from_both (λ q. IsIn used q × IsFree used q) (Differ place) (IsFree (set used place true)) (λ q is other. still_free used place q is.0 is.1 other) places
+    (all_from_both (IsIn used) (IsFree used) (λ q. IsIn used q × IsFree used q) (λ q one other. (one, other)) places within.1 free.1) differ.0)
     differ.1
 
 -- what was taken tells
@@ -110,9 +82,9 @@ free_if_taken (place ∷ places) used after within is =
     by_use true here none again = absurd (cc none)
     by_use false here rest again =
         let later = again rest in
-        let each : AllByRecursion (λ q. IsFree used q × Differ place q) places = every_both (IsIn used) (IsFree (set used place true)) (λ q. IsFree used q × Differ place q) (was_free used place) places within.1 later.free in
+        let each : AllByRecursion (λ q. IsFree used q × Differ place q) places = all_from_both (IsIn used) (IsFree (set used place true)) (λ q. IsFree used q × Differ place q) (was_free used place) places within.1 later.free in
         record {
-          free = (here, every_weaker (λ q. IsFree used q × Differ place q) (IsFree used) (λ q both. both.0) places each);
-          differ = (every_weaker (λ q. IsFree used q × Differ place q) (Differ place) (λ q both. both.1) places each, later.differ);
+          free = (here, all_from (λ q. IsFree used q × Differ place q) (IsFree used) (λ q both. both.0) places each);
+          differ = (all_from (λ q. IsFree used q × Differ place q) (Differ place) (λ q both. both.1) places each, later.differ);
           used_then = later.used_then;
         }

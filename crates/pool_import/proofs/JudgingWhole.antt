@@ -4,27 +4,32 @@ use Rattle.std.specs.Prelude.{nat_lt, sum_by}
 use Rattle.std.specs.List.{AllByRecursion, list_any, list_all}
 use Rattle.std.proofs.lemmas.Bool.{false≢true}
 use Rattle.std.proofs.lemmas.Bool.Decides.{nat_tests}
-use Rattle.std.proofs.lemmas.List.FromFn.{fill_by_all, length-map-range_with_len, get_or-map-range_with_len}
+use Rattle.ddt_entry.specs.Records.{IsKeyLength}
 use Rattle.ddt_entry.specs.declared.entry.Entry.{Entry}
-use Rattle.ddt_entry.specs.declared.entry.Change.TheVariants as changes
 use Rattle.disk_model.specs.Images.{Image}
+use Rattle.grant_book.specs.Sectors.{marked, ring_used}
+use Rattle.grant_book.proofs.MarkLaws.{length-marked, marked-at, length-ring_used, ring_used-at}
 use Rattle.uber_ring.specs.declared.seal.Seal.{Seal}
 use Rattle.pool_model.specs.Pool.{Pool, Pointer, Pairwise, IsApart, run_length, LiesWithin, is_at}
 use Rattle.pool_model.specs.Table.{TableState, IsApartFrom, waiting_in, entries_found}
-use Rattle.pool_model.specs.Space.{is_used, lies_in, used_sectors}
-use Rattle.table_state.specs.Flat.{Flat, HoldTogether, IsWithin, IsChangeWithin, IsClear, table_in, pool_in, pointer_of, counted_homes, last_changes}
+use Rattle.pool_model.specs.Space.{used_sectors}
+use Rattle.table_state.specs.Flat.{Flat, HoldTogether, IsWithin, IsChangeWithin, IsClear, table_in, pool_in, pointer_of, counted_homes}
 use Rattle.table_state.specs.SlotRecords.{is_slot}
+use Rattle.table_state.specs.Sound.{HasLength}
 use Rattle.table_state.specs.Tables.{IsTable, IsTableWithin}
 use Rattle.table_state.specs.declared.slot_record.SlotRecord.{SlotRecord}
-use Rattle.pool_import.specs.Lengths.{IsEntryLength, HasLengths}
-use Rattle.pool_import.specs.Marks.{spot_of, spot_in, go_apart, is_counted, are_owned, marked, taken, ring_used, places_of, places_in, is_clear}
+use Rattle.table_state.proofs.UsedLaws.{one_sector, used_is}
+use Rattle.table_state.proofs.Lists.{all_filter, all_from, all_from_both}
+use Rattle.pool_import.specs.Lengths.{HasLengths}
+use Rattle.pool_import.specs.Marks.{spot_of, spot_in, go_apart, is_counted, are_owned, taken, places_of, places_in, is_clear}
 use Rattle.pool_import.specs.Whole.{IsWhole}
 use Rattle.pool_import.specs.declared.marks.Spot.{Spot}
-use Rattle.pool_import.proofs.JudgingLists.{every_weaker, every_both, every_map, every_unmap, every_filter, pairs_map, pairs_unmap, pairs_weaker, list_all-each, each-list_all}
-use Rattle.pool_import.proofs.JudgingFound.{every_found, every_class, every_last}
+use Rattle.pool_import.proofs.Lengths.{key_lengths}
+use Rattle.pool_import.proofs.JudgingLists.{every_map, every_unmap, pairs_map, pairs_unmap, pairs_weaker, list_all-each, each-list_all}
+use Rattle.pool_import.proofs.JudgingFound.{every_found}
 use Rattle.pool_import.proofs.JudgingHomes.{IsKnown, known_of, homes_if_counted, counted_if_homes}
-use Rattle.pool_import.proofs.JudgingPairs.{one_sector, apart_if, differ_if, ranged_of, within_of, IsSound, slots_differ, together_if_apart, apart_if_together}
-use Rattle.pool_import.proofs.JudgingUsed.{or_none, length-marked, marked-at, taken_if_free, WasTaken, free_if_taken}
+use Rattle.pool_import.proofs.JudgingPairs.{apart_if, differ_if, ranged_of, within_of, IsInOrder, slots_differ, together_if_apart, apart_if_together}
+use Rattle.pool_import.proofs.JudgingUsed.{or_none, taken_if_free, WasTaken, free_if_taken}
 use Rattle.pool_import.proofs.JudgingOwners.{apart_if_owned, owned_if_apart}
 
 -- ---- Lists
@@ -48,19 +53,10 @@ spots_are : (image : Image) (table : TableState) (slots : List SlotRecord) → m
 spots_are image table [] = refl
 spots_are image table (slot ∷ slots) = ap (λ l. spot_of table slot ∷ l) (spots_are image table slots)
 
--- a test of images of a function
-any_map : {X Y : Type 0} (test : Y → Bool) (f : X → Y) (xs : List X) → list_any test (map f xs) ≡ list_any (λ x. test (f x)) xs
-any_map test f [] = refl
-any_map test f (x ∷ xs) = ap (λ b. test (f x) || b) (any_map test f xs)
-
--- two tests that agree on each element
-any_same : {X : Type 0} (test other : X → Bool) (xs : List X) → AllByRecursion (λ x. test x ≡ other x) xs → list_any test xs ≡ list_any other xs
-any_same test other [] each = refl
-any_same test other (x ∷ xs) each = ap (λ b. b || list_any test xs) each.0 ∙ ap (λ b. other x || b) (any_same test other xs each.1)
-
--- a sector lies in a run of one sector where it is its place
-lies_in-one : (s place n : ℕ) → n ≡ 1 → (place == s) ≡ lies_in s place n
-lies_in-one s place n one = grind (arith, nat_tests)
+-- and so are their places
+places_are : (pointers : List Pointer) → places_of (map spot_in pointers) ≡ map (λ (p : Pointer). p.place) pointers
+places_are [] = refl
+places_are (p ∷ pointers) = ap (λ (places : List ℕ). p.place ∷ places) (places_are pointers)
 
 -- a test that fails
 unnot : (b : Bool) → not b ≡ true → b ≡ false
@@ -87,21 +83,15 @@ pub record Grounds (seal : Seal) (flat : Flat) : Type 0 where
   pub sorted : IsTable (table_in seal flat)
   pub within : IsTableWithin seal.sectors seal.group (table_in seal flat)
 
--- the length of an entry's key
-abbrev HasLength : Entry → Type 0
-HasLength entry = IsEntryLength (changes.Entry entry)
-
 -- each home that the table finds has such a place
 found_roomed : (seal : Seal) (flat : Flat) → Grounds seal flat → AllByRecursion (IsRoomed seal.sectors) (entries_found (table_in seal flat))
 found_roomed seal flat grounds =
-    every_both (IsWithin seal.sectors seal.group) HasLength (IsRoomed seal.sectors)
+    let lengths = key_lengths seal flat grounds.lengths in
+    all_from_both (IsWithin seal.sectors seal.group) (λ e. IsKeyLength e.key.len) (IsRoomed seal.sectors)
     (λ e ranges len. record { start = ranges.place; on_disk = ranges.on_disk; run = one_sector e.key len })
     (entries_found (table_in seal flat))
     (every_found (IsWithin seal.sectors seal.group) (IsChangeWithin seal.sectors seal.group) (λ e is. is) (table_in seal flat) grounds.within.zap grounds.within.flush grounds.within.active)
-    (every_found HasLength IsEntryLength (λ e is. is) (table_in seal flat)
-    (every_class HasLength flat.duplicate flat.unique grounds.lengths.duplicate grounds.lengths.unique)
-    (every_filter IsEntryLength _ (last_changes flat.flushing) (every_last IsEntryLength flat.flushing grounds.lengths.flushing))
-    (every_last IsEntryLength flat.active grounds.lengths.active))
+    (every_found (λ e. IsKeyLength e.key.len) HasLength (λ e is. is) (table_in seal flat) lengths.zap lengths.flush lengths.active)
 
 -- ---- The tests, and what they say of any image
 
@@ -122,35 +112,23 @@ module _ (seal : Seal) (flat : Flat) (grounds : Grounds seal flat) where
   with_spots = marked on_pages (places_of spots)
 
   waiting_roomed : AllByRecursion (IsRoomed seal.sectors) waiting
-  waiting_roomed = every_filter (IsRoomed seal.sectors) (λ e. e.home.count == 0) (entries_found table) (found_roomed seal flat grounds)
-
-  length-ring : length (ring_used seal.sectors) ≡ seal.sectors
-  length-ring = length-map-range_with_len (λ s. nat_lt s 32) 0 seal.sectors
+  waiting_roomed = all_filter (IsRoomed seal.sectors) (λ e. e.home.count == 0) (entries_found table) (found_roomed seal flat grounds)
 
   length-pages : length on_pages ≡ seal.sectors
-  length-pages = length-marked flat.named (ring_used seal.sectors) ∙ length-ring
+  length-pages = length-marked flat.named (ring_used seal.sectors) ∙ length-ring_used seal.sectors
 
   length-spots : length with_spots ≡ seal.sectors
   length-spots = length-marked (places_of spots) on_pages ∙ length-pages
 
-  ring-at : (s : ℕ) → s < seal.sectors → get_or (ring_used seal.sectors) s false ≡ nat_lt s 32
-  ring-at s within = get_or-map-range_with_len (λ n. nat_lt n 32) 0 seal.sectors s s false within (omega arith)
-
   pages-at : (s : ℕ) → s < seal.sectors → get_or on_pages s false ≡ (nat_lt s 32 || list_any (λ page. page == s) flat.named)
   pages-at s within =
-      marked-at flat.named (ring_used seal.sectors) s (omega (arith, within, length-ring))
-      ∙ ap (λ b. b || list_any (λ page. page == s) flat.named) (ring-at s within)
+      marked-at flat.named (ring_used seal.sectors) s false (omega (arith, within, length-ring_used seal.sectors))
+      ∙ ap (λ b. b || list_any (λ page. page == s) flat.named) (ring_used-at seal.sectors s false within)
 
   spots-at : (s : ℕ) → s < seal.sectors → get_or with_spots s false ≡ ((nat_lt s 32 || list_any (λ page. page == s) flat.named) || list_any (λ place. place == s) (places_of spots))
   spots-at s within =
-      marked-at (places_of spots) on_pages s (omega (arith, within, length-pages))
+      marked-at (places_of spots) on_pages s false (omega (arith, within, length-pages))
       ∙ ap (λ b. b || list_any (λ place. place == s) (places_of spots)) (pages-at s within)
-
-  waits-at : (s : ℕ) → s < seal.sectors → get_or (marked with_spots (places_in waiting)) s false
-      ≡ (((nat_lt s 32 || list_any (λ page. page == s) flat.named) || list_any (λ place. place == s) (places_of spots)) || list_any (λ place. place == s) (places_in waiting))
-  waits-at s within =
-      marked-at (places_in waiting) with_spots s (omega (arith, within, length-spots))
-      ∙ ap (λ b. b || list_any (λ place. place == s) (places_in waiting)) (spots-at s within)
 
   -- the answers of all tests
   pub record Passed (used : List Bool) : Type 0 where
@@ -165,7 +143,7 @@ module _ (seal : Seal) (flat : Flat) (grounds : Grounds seal flat) where
   waits_within : AllByRecursion (λ place. place < length with_spots) (places_in waiting)
   waits_within =
       every_map (λ place. place < length with_spots) (λ (e : Entry). e.home.place) waiting
-      (every_weaker (IsRoomed seal.sectors) (λ (e : Entry). e.home.place < length with_spots) (λ e roomed. let on = roomed.on_disk in omega (arith, on, length-spots)) waiting waiting_roomed)
+      (all_from (IsRoomed seal.sectors) (λ (e : Entry). e.home.place < length with_spots) (λ e roomed. let on = roomed.on_disk in omega (arith, on, length-spots)) waiting waiting_roomed)
 
   -- the homes that wait lie apart where their places differ
   waits_apart : Pairwise (λ (a b : ℕ). (a == b) ≡ false) (places_in waiting) → Pairwise (λ (a b : Entry). IsApart a.home.place (run_length a.key) b.home.place (run_length b.key)) waiting
@@ -187,20 +165,20 @@ module _ (seal : Seal) (flat : Flat) (grounds : Grounds seal flat) where
     same_spots : map spot_in pool.pointers ≡ spots
     same_spots = spots_are image table flat.slots
 
-    sound : AllByRecursion (IsSound table seal.sectors seal.group) pool.pointers
+    sound : AllByRecursion (IsInOrder table seal.sectors seal.group) pool.pointers
     sound =
-        every_map (IsSound table seal.sectors seal.group) (pointer_of image table) flat.slots
-        (every_weaker (λ slot. is_slot seal.sectors seal.group slot ≡ true) (λ slot. IsSound table seal.sectors seal.group (pointer_of image table slot))
+        every_map (IsInOrder table seal.sectors seal.group) (pointer_of image table) flat.slots
+        (all_from (λ slot. is_slot seal.sectors seal.group slot ≡ true) (λ slot. IsInOrder table seal.sectors seal.group (pointer_of image table slot))
         (λ slot is. record { ranged = ranged_of seal.sectors seal.group image table slot is; known = known_of image table slot }) flat.slots grounds.slots)
 
     known : AllByRecursion (IsKnown table) pool.pointers
-    known = every_weaker (IsSound table seal.sectors seal.group) (IsKnown table) (λ p is. is.known) pool.pointers sound
+    known = all_from (IsInOrder table seal.sectors seal.group) (IsKnown table) (λ p is. is.known) pool.pointers sound
 
     spots_within : AllByRecursion (λ (y : Spot). y.place < seal.sectors) spots
     spots_within =
         subst (AllByRecursion (λ (y : Spot). y.place < seal.sectors)) same_spots
         (every_map (λ (y : Spot). y.place < seal.sectors) spot_in pool.pointers
-        (every_weaker (IsSound table seal.sectors seal.group) (λ (p : Pointer). p.place < seal.sectors) (λ p is. is.ranged.on_disk) pool.pointers sound))
+        (all_from (IsInOrder table seal.sectors seal.group) (λ (p : Pointer). p.place < seal.sectors) (λ p is. is.ranged.on_disk) pool.pointers sound))
 
     slots_apart : Pairwise (λ (p q : Pointer). is_at p.lane p.slot q ≡ false) pool.pointers
     slots_apart = slots_differ image table flat.slots grounds.together.slots_rising
@@ -216,7 +194,7 @@ module _ (seal : Seal) (flat : Flat) (grounds : Grounds seal flat) where
 
     clear_if : list_all (is_clear on_pages) spots ≡ true → AllByRecursion (λ (p : Pointer). IsClear flat.named p.place) pool.pointers
     clear_if passed =
-        every_both (IsSound table seal.sectors seal.group) (λ (p : Pointer). is_clear on_pages (spot_in p) ≡ true) (λ (p : Pointer). IsClear flat.named p.place)
+        all_from_both (IsInOrder table seal.sectors seal.group) (λ (p : Pointer). is_clear on_pages (spot_in p) ≡ true) (λ (p : Pointer). IsClear flat.named p.place)
         (λ p is clear. (or_none (nat_lt p.place 32) (list_any (λ page. page == p.place) flat.named) (sym (pages-at p.place is.ranged.on_disk) ∙ unnot (get_or on_pages p.place false) clear)).1)
         pool.pointers sound (of_pointers (λ spot. is_clear on_pages spot ≡ true) (list_all-each (is_clear on_pages) spots passed))
 
@@ -224,7 +202,7 @@ module _ (seal : Seal) (flat : Flat) (grounds : Grounds seal flat) where
     clear_then each =
         each-list_all (is_clear on_pages) spots
         (of_spots (λ spot. is_clear on_pages spot ≡ true)
-        (every_both (IsSound table seal.sectors seal.group) (λ (p : Pointer). IsClear flat.named p.place) (λ (p : Pointer). is_clear on_pages (spot_in p) ≡ true)
+        (all_from_both (IsInOrder table seal.sectors seal.group) (λ (p : Pointer). IsClear flat.named p.place) (λ (p : Pointer). is_clear on_pages (spot_in p) ≡ true)
         (λ p is clear. ap not (pages-at p.place is.ranged.on_disk ∙ ap (λ b. b || list_any (λ page. page == p.place) flat.named) (not_ring p.place is.ranged.start) ∙ clear))
         pool.pointers sound each))
 
@@ -240,7 +218,7 @@ module _ (seal : Seal) (flat : Flat) (grounds : Grounds seal flat) where
         let parts = or_none (nat_lt e.home.place 32 || list_any (λ page. page == e.home.place) flat.named) (list_any (λ place. place == e.home.place) (places_of spots)) (sym (spots-at e.home.place roomed.on_disk) ∙ free) in
         record {
           page = (or_none (nat_lt e.home.place 32) (list_any (λ page. page == e.home.place) flat.named) parts.0).1;
-          pointers = every_both (IsSound table seal.sectors seal.group) (λ (p : Pointer). (p.place == e.home.place) ≡ false) (IsApartFrom e)
+          pointers = all_from_both (IsInOrder table seal.sectors seal.group) (λ (p : Pointer). (p.place == e.home.place) ≡ false) (IsApartFrom e)
               (λ p is differ. apart_if e.home.place p.place (run_length e.key) (run_length p.key) roomed.run is.ranged.run (λ same. false≢true (sym differ ∙ eq-eqb p.place e.home.place (sym same))))
               pool.pointers sound
               (of_pointers (λ spot. (spot.place == e.home.place) ≡ false)
@@ -255,7 +233,7 @@ module _ (seal : Seal) (flat : Flat) (grounds : Grounds seal flat) where
         ∙ none_any (λ place. place == e.home.place) (places_of spots)
         (every_map (λ place. (place == e.home.place) ≡ false) (λ (spot : Spot). spot.place) spots
         (of_spots (λ spot. (spot.place == e.home.place) ≡ false)
-        (every_both (IsSound table seal.sectors seal.group) (IsApartFrom e) (λ (p : Pointer). (p.place == e.home.place) ≡ false)
+        (all_from_both (IsInOrder table seal.sectors seal.group) (IsApartFrom e) (λ (p : Pointer). (p.place == e.home.place) ≡ false)
         (λ p is apart. eqb_back e.home.place p.place (differ_if e.home.place p.place (run_length e.key) (run_length p.key) roomed.run is.ranged.run apart))
         pool.pointers sound alone.pointers)))
       where
@@ -264,38 +242,22 @@ module _ (seal : Seal) (flat : Flat) (grounds : Grounds seal flat) where
 
     all_alone : AllByRecursion (λ place. get_or with_spots place false ≡ false) (places_in waiting) → AllByRecursion IsAlone waiting
     all_alone free =
-        every_both (IsRoomed seal.sectors) (λ (e : Entry). get_or with_spots e.home.place false ≡ false) IsAlone alone_if waiting waiting_roomed
+        all_from_both (IsRoomed seal.sectors) (λ (e : Entry). get_or with_spots e.home.place false ≡ false) IsAlone alone_if waiting waiting_roomed
         (every_unmap (λ place. get_or with_spots place false ≡ false) (λ (e : Entry). e.home.place) waiting free)
 
     all_free : AllByRecursion IsAlone waiting → AllByRecursion (λ place. get_or with_spots place false ≡ false) (places_in waiting)
     all_free alone =
         every_map (λ place. get_or with_spots place false ≡ false) (λ (e : Entry). e.home.place) waiting
-        (every_both (IsRoomed seal.sectors) IsAlone (λ (e : Entry). get_or with_spots e.home.place false ≡ false) alone_then waiting waiting_roomed alone)
+        (all_from_both (IsRoomed seal.sectors) IsAlone (λ (e : Entry). get_or with_spots e.home.place false ≡ false) alone_then waiting waiting_roomed alone)
 
     -- ---- The sectors that are used
 
-    used_is : marked with_spots (places_in waiting) ≡ used_sectors seal.sectors flat.named pool table
-    used_is = fill_by_all (is_used flat.named pool table) (marked with_spots (places_in waiting)) seal.sectors false (length-marked (places_in waiting) with_spots ∙ length-spots) each
-      where
-        by_pointers : (s : ℕ) → list_any (λ place. place == s) (places_of spots) ≡ list_any (λ (p : Pointer). lies_in s p.place (run_length p.key)) pool.pointers
-        by_pointers s =
-            any_map (λ place. place == s) (λ (spot : Spot). spot.place) spots
-            ∙ ap (list_any (λ (spot : Spot). spot.place == s)) (sym same_spots)
-            ∙ any_map (λ (spot : Spot). spot.place == s) spot_in pool.pointers
-            ∙ any_same (λ (p : Pointer). p.place == s) (λ (p : Pointer). lies_in s p.place (run_length p.key)) pool.pointers
-            (every_weaker (IsSound table seal.sectors seal.group) (λ (p : Pointer). (p.place == s) ≡ lies_in s p.place (run_length p.key)) (λ p is. lies_in-one s p.place (run_length p.key) is.ranged.run) pool.pointers sound)
-
-        by_waits : (s : ℕ) → list_any (λ place. place == s) (places_in waiting) ≡ list_any (λ (e : Entry). lies_in s e.home.place (run_length e.key)) waiting
-        by_waits s =
-            any_map (λ place. place == s) (λ (e : Entry). e.home.place) waiting
-            ∙ any_same (λ (e : Entry). e.home.place == s) (λ (e : Entry). lies_in s e.home.place (run_length e.key)) waiting
-            (every_weaker (IsRoomed seal.sectors) (λ (e : Entry). (e.home.place == s) ≡ lies_in s e.home.place (run_length e.key)) (λ e roomed. lies_in-one s e.home.place (run_length e.key) roomed.run) waiting waiting_roomed)
-
-        each : (s : ℕ) → s < seal.sectors → get_or (marked with_spots (places_in waiting)) s false ≡ is_used flat.named pool table s
-        each s within =
-            waits-at s within
-            ∙ ap (λ b. ((nat_lt s 32 || list_any (λ page. page == s) flat.named) || b) || list_any (λ place. place == s) (places_in waiting)) (by_pointers s)
-            ∙ ap (λ b. ((nat_lt s 32 || list_any (λ page. page == s) flat.named) || list_any (λ (p : Pointer). lies_in s p.place (run_length p.key)) pool.pointers) || b) (by_waits s)
+    marked_is : marked with_spots (places_in waiting) ≡ used_sectors seal.sectors flat.named pool table
+    marked_is =
+        ap (λ (places : List ℕ). marked (marked on_pages places) (places_in waiting)) (ap places_of (sym same_spots) ∙ places_are pool.pointers)
+        ∙ used_is seal.sectors flat.named pool table
+        (all_from (IsInOrder table seal.sectors seal.group) (λ (p : Pointer). run_length p.key ≡ 1) (λ p is. is.ranged.run) pool.pointers sound)
+        (all_from (IsRoomed seal.sectors) (λ (e : Entry). run_length e.key ≡ 1) (λ e roomed. roomed.run) waiting waiting_roomed)
 
     -- ---- The whole
 
@@ -308,20 +270,20 @@ module _ (seal : Seal) (flat : Flat) (grounds : Grounds seal flat) where
             well_formed = record {
               together = together_if_apart table seal.sectors seal.group pool.pointers sound slots_apart
                   (subst (Pairwise (λ a b. go_apart a b ≡ true)) (sym same_spots) (apart_if_owned spots seal.sectors spots_within passed.owned));
-              within = every_weaker (IsSound table seal.sectors seal.group) (LiesWithin seal.sectors seal.group) (λ p is. within_of seal.sectors seal.group p is.ranged) pool.pointers sound;
+              within = all_from (IsInOrder table seal.sectors seal.group) (LiesWithin seal.sectors seal.group) (λ p is. within_of seal.sectors seal.group p is.ranged) pool.pointers sound;
             };
             matches = record {
               homes = homes_if_counted pool table grounds.sorted known (ap (λ (l : List Spot). list_all (is_counted l) (counted_homes table)) same_spots ∙ passed.are_counted);
-              waiting = every_weaker IsAlone (λ (e : Entry). AllByRecursion (IsApartFrom e) pool.pointers) (λ e is. is.pointers) waiting alone;
+              waiting = all_from IsAlone (λ (e : Entry). AllByRecursion (IsApartFrom e) pool.pointers) (λ e is. is.pointers) waiting alone;
               apart = waits_apart took.differ;
             };
             homes = passed.homes;
             references = passed.references;
             pages = passed.pages;
             pointers_clear = clear_if passed.are_clear;
-            waiting_clear = every_weaker IsAlone (λ (e : Entry). IsClear flat.named e.home.place) (λ e is. is.page) waiting alone;
+            waiting_clear = all_from IsAlone (λ (e : Entry). IsClear flat.named e.home.place) (λ e is. is.page) waiting alone;
           },
-          took.used_then ∙ used_is,
+          took.used_then ∙ marked_is,
         )
 
     -- what is whole passes all tests
@@ -335,7 +297,7 @@ module _ (seal : Seal) (flat : Flat) (grounds : Grounds seal flat) where
       owned = owned_if_apart spots seal.sectors spots_within
           (subst (Pairwise (λ a b. go_apart a b ≡ true)) same_spots (apart_if_together table seal.sectors seal.group pool.pointers sound whole.well_formed.together));
       were_taken = taken_if_free (places_in waiting) with_spots waits_within
-          (all_free (every_both (λ (e : Entry). IsClear flat.named e.home.place) (λ (e : Entry). AllByRecursion (IsApartFrom e) pool.pointers) IsAlone
+          (all_free (all_from_both (λ (e : Entry). IsClear flat.named e.home.place) (λ (e : Entry). AllByRecursion (IsApartFrom e) pool.pointers) IsAlone
           (λ e clear apart. record { page = clear; pointers = apart }) waiting whole.waiting_clear whole.matches.waiting))
           (waits_differ whole.matches.apart);
     }

@@ -10,8 +10,8 @@ pub mod JudgingWhole
 pub mod JudgingAnswers
 pub mod JudgingKeys
 pub mod Together
+pub mod Lengths
 pub mod Ranges
 pub mod Making
 pub mod Sealing
 pub mod Sounding
-pub mod Telling

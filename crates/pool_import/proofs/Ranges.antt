@@ -2,7 +2,10 @@
 use Rattle.std.proofs.Common.{◌≡◌, ◌≤◌, ◌∙◌, ◌++◌, Bool, true, false, not, cond, ◌&&◌, ◌==◌, ℕ, List, [], ◌∷◌, Option, Some, None, Result, Ok, Err, map, get_or, drop, length, refl, sym, ap, subst, append-nil}
 use Rattle.std.specs.List.{AllByRecursion}
 use Rattle.std.proofs.lemmas.List.{drop_all}
-use Rattle.ddt_entry.specs.Records.{is_key_length, is_no_home, malformed, change_in, fields_in}
+use Rattle.std.specs.Prelude.{nat_le}
+use Rattle.std.proofs.lemmas.Bool.{and_parts, leb-true}
+use Rattle.ddt_entry.specs.Changes.{key_in}
+use Rattle.ddt_entry.specs.Records.{is_key_length, is_no_home, malformed, change_in, fields_in, IsKeyLength}
 use Rattle.ddt_entry.specs.declared.key.Key.{Key}
 use Rattle.ddt_entry.specs.declared.entry.Home.{Home}
 use Rattle.ddt_entry.specs.declared.entry.Entry.{Entry}
@@ -11,8 +14,8 @@ use Rattle.ddt_entry.specs.declared.entry.Change.TheVariants as changes
 use Rattle.ddt_entry.specs.declared.record.Malformed.{Malformed}
 use Rattle.ddt_entry.specs.declared.entry.SlotKind.{SlotKind}
 use Rattle.table_state.specs.SlotRecords.{is_slot, slot_in, slot_of, slot_at, kind_said, kind_at}
+use Rattle.table_state.specs.Sound.{HasLength}
 use Rattle.table_state.specs.declared.slot_record.SlotRecord.{SlotRecord}
-use Rattle.pool_import.specs.Lengths.{IsEntryLength}
 
 -- what holds of each item that a record spells
 all_spelled : {X Y : Type 0} (f : List ℕ → Y) (g : X → Y) (P : X → Type 0) → ((r : List ℕ) (x : X) → f r ≡ g x → P x) → (rs : List (List ℕ)) (xs : List X) → map f rs ≡ map g xs → AllByRecursion P xs
@@ -48,30 +51,34 @@ said long entry gone key home =
     cond (not long) malformed (cond entry (Ok (changes.Entry (record { key = key; home = home }))) (cond gone (Ok (changes.Gone key)) malformed))
 
 abbrev key_said : Key → Result Change Malformed → Key
-key_said default (Ok (changes.Entry entry)) = entry.key
-key_said default (Ok (changes.Gone key)) = default
+key_said default (Ok change) = key_in change
 key_said default (Err fault) = default
 
--- a change that was said has a key of a block's length
-length_said : (long entry gone : Bool) (key : Key) (home : Home) (change : Change) → is_key_length key.len ≡ long → said long entry gone key home ≡ Ok change → IsEntryLength change
-length_said false entry gone key home change test same = absurd (cc same)
-length_said true entry gone key home (changes.Gone old) test same = tt
-length_said true true gone key home (changes.Entry found) test same = subst (λ (k : Key). is_key_length k.len ≡ true) (ap (key_said key) same) test
-length_said true false true key home (changes.Entry found) test same = absurd (cc same)
-length_said true false false key home (changes.Entry found) test same = absurd (cc same)
+-- a change that was said is of the key that was said
+said_of : (long entry gone : Bool) (key : Key) (home : Home) (change : Change) → said long entry gone key home ≡ Ok change → (long ≡ true) × (key ≡ key_in change)
+said_of false entry gone key home change same = absurd (cc same)
+said_of true true gone key home change same = (refl, ap (key_said key) same)
+said_of true false true key home change same = (refl, ap (key_said key) same)
+said_of true false false key home change same = absurd (cc same)
 
-change_length : (bytes : List ℕ) (change : Change) → change_in bytes ≡ Ok change → IsEntryLength change
+-- a length that passed the test
+length_of : (len : ℕ) → is_key_length len ≡ true → IsKeyLength len
+length_of len is = let parts = and_parts (nat_le 1 len) (nat_le len 4096) is in (leb-true 1 len parts.0, leb-true len 4096 parts.1)
+
+-- so its key has a length that a key can have
+change_length : (bytes : List ℕ) (change : Change) → change_in bytes ≡ Ok change → HasLength change
 change_length bytes change same =
-    length_said (is_key_length (fields_in bytes).key.len) ((fields_in bytes).kind == 1) (((fields_in bytes).kind == 2) && is_no_home (fields_in bytes).home) (fields_in bytes).key (fields_in bytes).home change refl same
+    let said_so = said_of (is_key_length (fields_in bytes).key.len) ((fields_in bytes).kind == 1) (((fields_in bytes).kind == 2) && is_no_home (fields_in bytes).home) (fields_in bytes).key (fields_in bytes).home change same in
+    subst (λ (k : Key). IsKeyLength k.len) said_so.1 (length_of (fields_in bytes).key.len said_so.0)
 
--- so the keys of entries that were read have a block's length
-pub entries_in_range : (records : List (List ℕ)) (entries : List Entry) → map change_in records ≡ map (λ entry. Ok (changes.Entry entry)) entries → AllByRecursion (λ entry. IsEntryLength (changes.Entry entry)) entries
+-- and so have the keys of entries that were read
+pub entries_in_range : (records : List (List ℕ)) (entries : List Entry) → map change_in records ≡ map (λ entry. Ok (changes.Entry entry)) entries → AllByRecursion (λ entry. IsKeyLength entry.key.len) entries
 entries_in_range records entries same =
-    all_spelled change_in (λ entry. Ok (changes.Entry entry)) (λ entry. IsEntryLength (changes.Entry entry)) (λ r entry e. change_length r (changes.Entry entry) e) records entries same
+    all_spelled change_in (λ entry. Ok (changes.Entry entry)) (λ entry. IsKeyLength entry.key.len) (λ r entry e. change_length r (changes.Entry entry) e) records entries same
 
--- and of changes
-pub changes_in_range : (records : List (List ℕ)) (log : List Change) → map change_in records ≡ map Ok log → AllByRecursion IsEntryLength log
-changes_in_range records log same = all_spelled change_in Ok IsEntryLength change_length records log same
+-- and those of changes
+pub changes_in_range : (records : List (List ℕ)) (log : List Change) → map change_in records ≡ map Ok log → AllByRecursion HasLength log
+changes_in_range records log same = all_spelled change_in Ok HasLength change_length records log same
 
 -- a list that was made of all records
 pub made_whole : {X Y : Type 0} (f : List ℕ → Y) (g : X → Y) (rs : List (List ℕ)) (xs : List X) (i : ℕ) → map g xs ++ map f (drop i rs) ≡ map f rs → length rs ≤ i → map f rs ≡ map g xs

@@ -1,17 +1,19 @@
 -- The numbers of a pool in memory are in their ranges, whatever a disk tells.
-use Rattle.std.proofs.Common.{◌≡◌, ◌∙◌, ℕ, ◌≤◌, true, [], length, sym, ap, subst}
-use Rattle.std.specs.Prelude.{nat_le}
+use Rattle.std.proofs.Common.{◌≡◌, ◌∙◌, ℕ, ◌≤◌, true, [], length, sym, ap, subst, subst₂}
+use Rattle.std.specs.Prelude.{nat_le, slice_index_or}
 use Rattle.std.specs.List.{AllByRecursion}
 use Rattle.std.proofs.lemmas.Bool.{and_parts, leb-true}
-use Rattle.std.proofs.lemmas.List.FromFn.{length-map-range_with_len}
 use Rattle.uber_ring.specs.declared.seal.Seal.{Seal}
-use Rattle.pool_model.specs.Space.{is_used}
 use Rattle.table_state.specs.SealForms.{is_formed, has_group, has_size, has_flags, has_modes, has_checkpoint, fewest_sectors, most_sectors, last_group}
 use Rattle.table_state.specs.SlotRecords.{is_slot}
 use Rattle.table_state.specs.Flat.{Flat, table_in, pool_in}
 use Rattle.table_state.specs.Pools.{Held}
-use Rattle.table_state.proofs.TableBack.{is_table_in, table_in_within}
-use Rattle.pool_import.specs.Imports.{IsMade, IsSound, held_of}
+use Rattle.table_state.specs.Sound.{IsSound}
+use Rattle.table_state.proofs.TableBack.{table_in_within}
+use Rattle.table_state.proofs.UsedLaws.{length-used_sectors, ring_is_used}
+use Rattle.pool_import.specs.Imports.{IsMade, held_of}
+use Rattle.pool_import.specs.Lengths.{HasLengths}
+use Rattle.pool_import.proofs.Lengths.{key_lengths}
 
 -- what the form of a seal says of the pool's numbers
 pub record HasNumbers (disk_sectors : ℕ) (seal : Seal) : Type 0 where
@@ -39,19 +41,24 @@ numbers_of tag disk_sectors seal formed =
     }
 
 -- so a pool that was made under it is sound
-pub sound_of : (tag disk_sectors : ℕ) (seal : Seal) (flat : Flat) (held : Held) → is_formed tag disk_sectors seal ≡ true → AllByRecursion (λ slot. is_slot seal.sectors seal.group slot ≡ true) flat.slots → IsMade tag seal flat held → IsSound disk_sectors held
-sound_of tag disk_sectors seal flat held formed slots made =
+pub sound_of : (tag disk_sectors : ℕ) (seal : Seal) (flat : Flat) (held : Held) → is_formed tag disk_sectors seal ≡ true → AllByRecursion (λ slot. is_slot seal.sectors seal.group slot ≡ true) flat.slots → HasLengths flat → IsMade tag seal flat held → IsSound held
+sound_of tag disk_sectors seal flat held formed slots lengths made =
     let numbers : HasNumbers disk_sectors seal = numbers_of tag disk_sectors seal formed in
-    let sound : IsSound disk_sectors (held_of tag seal flat made.used) = record {
-      on_disk = numbers.on_disk;
+    let sound : IsSound (held_of tag seal flat made.used) = record {
       enough = numbers.enough;
       few = numbers.few;
       first = numbers.first;
       last = numbers.last;
-      used = ap length (made.used_are []) ∙ length-map-range_with_len (is_used flat.named (pool_in [] seal flat) (table_in seal flat)) 0 seal.sectors;
-      slots = slots;
-      slots_rising = made.together.slots_rising;
-      table_sorted = is_table_in seal flat made.together;
-      table_within = table_in_within seal flat made.together;
+      used_len = ap length (made.used_are []) ∙ length-used_sectors seal.sectors flat.named (pool_in [] seal flat) (table_in seal flat);
+      ring = λ sector first. ap (λ used. slice_index_or used sector true) (made.used_are []) ∙ ring_is_used seal.sectors flat.named (pool_in [] seal flat) (table_in seal flat) sector first;
+      slots_within = slots;
+      within = table_in_within seal flat made.together;
+      lengths = key_lengths seal flat lengths;
     } in
-    subst (λ (h : Held). IsSound disk_sectors h) (sym made.held_is) sound
+    subst IsSound (sym made.held_is) sound
+
+-- and has no more sectors than the disk
+pub no_larger : (tag disk_sectors sectors : ℕ) (seal : Seal) (flat : Flat) (held : Held) → is_formed tag disk_sectors seal ≡ true → disk_sectors ≡ sectors → IsMade tag seal flat held → held.sectors ≤ sectors
+no_larger tag disk_sectors sectors seal flat held formed same made =
+    let numbers : HasNumbers disk_sectors seal = numbers_of tag disk_sectors seal formed in
+    subst₂ (λ (h : Held) n. h.sectors ≤ n) (sym made.held_is) same numbers.on_disk

@@ -1,14 +1,10 @@
 -- What makes a pool in memory of an image.
-use Rattle.std.specs.Prelude.{◌≡◌, ℕ, ◌≤◌, Bool, true, List, length}
-use Rattle.std.specs.List.{AllByRecursion}
+use Rattle.std.specs.Prelude.{◌≡◌, ℕ, Bool, true, List, length}
 use Rattle.disk_model.specs.Images.{Image}
 use Rattle.uber_ring.specs.declared.seal.Seal.{Seal}
-use Rattle.pool_model.specs.Pool.{Pairwise}
 use Rattle.pool_model.specs.Space.{used_sectors}
-use Rattle.table_state.specs.SealForms.{is_formed, modes_in, quota_in, fewest_sectors, most_sectors, last_group}
-use Rattle.table_state.specs.SlotRecords.{is_slot}
-use Rattle.table_state.specs.Tables.{IsTable, IsTableWithin}
-use Rattle.table_state.specs.Flat.{Flat, IsRead, HoldTogether, table_in, pool_in, stands_before}
+use Rattle.table_state.specs.SealForms.{is_formed, modes_in, quota_in}
+use Rattle.table_state.specs.Flat.{Flat, IsRead, HoldTogether, table_in, pool_in}
 use Rattle.table_state.specs.Pools.{Held}
 use Rattle.pool_import.specs.Whole.{IsWhole}
 
@@ -47,16 +43,3 @@ pub record IsMadeOf (tag : ℕ) (image : Image) (seal : Seal) (held : Held) : Ty
   pub formed : is_formed tag (length image) seal ≡ true
   pub read : IsRead image seal flat
   pub made : IsMade tag seal flat held
-
--- the numbers of a pool in memory, on a disk of so many sectors, and the order of what it keeps
-pub record IsSound (disk_sectors : ℕ) (held : Held) : Type 0 where
-  pub on_disk : held.sectors ≤ disk_sectors
-  pub enough : fewest_sectors ≤ held.sectors
-  pub few : held.sectors ≤ most_sectors
-  pub first : 1 ≤ held.group
-  pub last : held.group ≤ last_group
-  pub used : length held.used ≡ held.sectors
-  pub slots : AllByRecursion (λ slot. is_slot held.sectors held.group slot ≡ true) held.slots
-  pub slots_rising : Pairwise (λ a b. stands_before a b ≡ true) held.slots
-  pub table_sorted : IsTable held.table
-  pub table_within : IsTableWithin held.sectors held.group held.table

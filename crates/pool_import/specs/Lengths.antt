@@ -1,19 +1,12 @@
 -- The lengths of the keys that a flat image names.
-use Rattle.std.specs.Prelude.{◌≡◌, ⊤, true}
 use Rattle.std.specs.List.{AllByRecursion}
-use Rattle.ddt_entry.specs.Records.{is_key_length}
-use Rattle.ddt_entry.specs.declared.entry.Change.{Change}
-use Rattle.ddt_entry.specs.declared.entry.Change.TheVariants as changes
+use Rattle.ddt_entry.specs.Records.{IsKeyLength}
 use Rattle.table_state.specs.Flat.{Flat}
+use Rattle.table_state.specs.Sound.{HasLength}
 
--- the length of an entry's key is in its range
-abbrev pub IsEntryLength : Change → Type 0
-IsEntryLength (changes.Entry e) = is_key_length e.key.len ≡ true
-IsEntryLength (changes.Gone k) = ⊤
-
--- the key of each entry has a length in its range
+-- each of them is one that a key can have
 pub record HasLengths (flat : Flat) : Type 0 where
-  pub unique : AllByRecursion (λ entry. IsEntryLength (changes.Entry entry)) flat.unique
-  pub duplicate : AllByRecursion (λ entry. IsEntryLength (changes.Entry entry)) flat.duplicate
-  pub active : AllByRecursion IsEntryLength flat.active
-  pub flushing : AllByRecursion IsEntryLength flat.flushing
+  pub unique : AllByRecursion (λ entry. IsKeyLength entry.key.len) flat.unique
+  pub duplicate : AllByRecursion (λ entry. IsKeyLength entry.key.len) flat.duplicate
+  pub active : AllByRecursion HasLength flat.active
+  pub flushing : AllByRecursion HasLength flat.flushing

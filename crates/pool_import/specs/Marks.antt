@@ -1,6 +1,5 @@
 -- What the rules of the whole ask of a slot: the key, the place, and whether the table counts its pointer.
-use Rattle.std.specs.Prelude.{ℕ, ◌+◌, ◌-◌, Bool, nat_lt, true, false, not, ◌&&◌, ◌||◌, ◌==◌, List, [], ◌∷◌, map, length, sum_by, count_by, slice_get, slice_index, slice_index_or, slice_set, Option, Some, None, if◌then◌else◌}
-use Rattle.std.specs.List.{range_with_len}
+use Rattle.std.specs.Prelude.{ℕ, ◌+◌, ◌-◌, Bool, true, false, not, ◌&&◌, ◌||◌, ◌==◌, List, [], ◌∷◌, map, length, sum_by, count_by, slice_get, slice_index, slice_index_or, slice_set, Option, Some, None, if◌then◌else◌}
 use Rattle.ddt_entry.specs.Keys.{key_eq}
 use Rattle.ddt_entry.specs.declared.key.Key.{Key}
 use Rattle.ddt_entry.specs.declared.entry.Entry.{Entry}
@@ -67,21 +66,12 @@ are_owned all at owners (spot ∷ spots) =
     then are_owned all (at + 1) (slice_set owners spot.place (at + 1)) spots
     else shares_with (slice_get all (slice_index owners spot.place - 1)) spot && are_owned all (at + 1) owners spots
 
--- the sectors with these places used too
-abbrev pub marked : List Bool → List ℕ → List Bool
-marked used [] = used
-marked used (place ∷ places) = marked (slice_set used place true) places
-
--- the same, where each place is free until then
+-- the sectors with these places used too, where each place is free until then
 abbrev pub taken : List Bool → List ℕ → Option (List Bool)
 taken used [] = Some used
 taken used (place ∷ places) = if slice_index_or used place false then None else taken (slice_set used place true) places
 
 -- ---- The sectors that a pool uses
-
--- those of the ring
-abbrev pub ring_used : (sectors : ℕ) → List Bool
-ring_used sectors = map (λ s. nat_lt s 32) (range_with_len 0 sectors)
 
 abbrev pub places_of : List Spot → List ℕ
 places_of spots = map (λ spot. spot.place) spots

@@ -1,9 +1,9 @@
 ghost use Rattle.std.specs.Prelude.{◌≡◌, ℕ, true, map, Ok, IfOk, IsErrOf};
 ghost use Rattle.std.specs.List.{AllByRecursion, list_any};
-ghost use Rattle.ddt_entry.specs.Records.{change_in};
+ghost use Rattle.ddt_entry.specs.Records.{IsKeyLength, change_in};
 ghost use Rattle.ddt_entry.specs.declared.entry.Change.TheVariants.{Entry as AnEntry};
 ghost use Rattle.page_tree.specs.declared.fault.PageFault.TheVariants.{Damaged, ReadFault};
-ghost use Rattle.pool_import.specs.Lengths.{IsEntryLength};
+ghost use Rattle.table_state.specs.Sound.{HasLength};
 ghost use Rattle.pool_import.specs.Spelled.{spells_no_change, spells_no_entry};
 
 use ddt_entry::{Change, read_change};
@@ -15,7 +15,7 @@ use std::alloc::Global;
 /// change; the error `Memory` is want of memory for the list.
 pub fn changes_of(alloc: Global, records: &RecordList, at: u64) -> Result<ChangeList, PageFault>
     ensures read { IfOk result (λ changes. map change_in records.now.items ≡ map Ok changes.items) }
-    ensures lengths { IfOk result (λ changes. AllByRecursion IsEntryLength changes.items) }
+    ensures lengths { IfOk result (λ changes. AllByRecursion HasLength changes.items) }
     ensures damaged { (sector : ℕ) → IsErrOf result (Damaged sector) → (sector ≡ at) × (list_any spells_no_change records.now.items ≡ true) }
     ensures reads { IsErrOf result ReadFault → ⊥ }
 {
@@ -34,7 +34,7 @@ pub fn changes_of(alloc: Global, records: &RecordList, at: u64) -> Result<Change
 /// entry; the error `Memory` is want of memory for the list.
 pub fn entries_of(alloc: Global, records: &RecordList, at: u64) -> Result<EntryList, PageFault>
     ensures read { IfOk result (λ entries. map change_in records.now.items ≡ map (λ entry. Ok (AnEntry entry)) entries.items) }
-    ensures lengths { IfOk result (λ entries. AllByRecursion (λ entry. IsEntryLength (AnEntry entry)) entries.items) }
+    ensures lengths { IfOk result (λ entries. AllByRecursion (λ entry. IsKeyLength entry.key.len) entries.items) }
     ensures damaged { (sector : ℕ) → IsErrOf result (Damaged sector) → (sector ≡ at) × (list_any spells_no_entry records.now.items ≡ true) }
     ensures reads { IsErrOf result ReadFault → ⊥ }
 {

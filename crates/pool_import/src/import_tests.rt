@@ -384,3 +384,30 @@ fn a_fault_of_the_disk_is_told_as_what_it_was(rt: HostRuntime) -> Result<(), Fai
     }
     Ok(())
 }
+
+#[test]
+fn a_failing_barrier_is_told_before_what_the_image_is(rt: HostRuntime) -> Result<(), Fail> {
+    // The seal's sums are wrong, and then the first read fails too.
+    for (reads_fail, expected) in [(false, SyncFault::Damaged(3)), (true, SyncFault::ReadFault)] {
+        for barrier_fails in [false, true] {
+            let mut disk = MemDisk::new(rt.alloc(), 2048)?;
+            let seal = of_one_pointer(&rt, &mut disk)?;
+            seal_in(&rt, &mut disk, &spoiled(&seal, 6))?;
+            if reads_fail {
+                disk.fail_reads(1, 1, 1);
+            }
+            if barrier_fails {
+                let made = disk.calls_made();
+                disk.fail_call(made.saturating_add(2));
+            }
+            let told = import(rt.alloc(), &mut disk, &Sha256Key).err();
+            let known = if barrier_fails {
+                SyncFault::WriteFault
+            } else {
+                expected
+            };
+            assert_eq!(rt; told, Some(known));
+        }
+    }
+    Ok(())
+}

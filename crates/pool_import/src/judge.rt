@@ -18,7 +18,7 @@ ghost use Rattle.pool_import.specs.Whole.{IsWhole};
 
 use crate::flat::FlatImage;
 use crate::judge_counts::{are_counted, only_counted, sums_agree};
-use crate::judge_places::{are_clear, are_owned, mark_all, mark_spots, take_homes, with_ring};
+use crate::judge_places::{are_clear, are_owned, mark_spots, take_homes};
 use crate::marks::{Spot, spots_of};
 use ddt_entry::Entry;
 use grant_book::SectorSet;
@@ -97,8 +97,8 @@ fn sectors_taken(
     requires { 32 ≤ sectors }
     ensures { IfOk result (λ found. found ≡ sectors_taken sectors named.now spots.now table.now) }
 {
-    let mut used = with_ring(alloc, sectors)?;
-    mark_all(&mut used, named);
+    let mut used = SectorSet::with_ring(alloc, sectors)?;
+    used.mark_all(named);
     if !are_clear(&used, spots) {
         return Ok(None);
     }

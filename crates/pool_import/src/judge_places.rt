@@ -1,24 +1,13 @@
 ghost use Rattle.std.specs.Prelude.{◌≡◌, ◌≤◌, ℕ, IfOk, true, false, Some, None, replicate, slice_index, slice_index_or, slice_set, slice_get, if◌then◌else◌};
 ghost use Rattle.std.specs.List.{list_all};
 ghost use Rattle.std.specs.Option.{option_copied};
-ghost use Rattle.pool_import.specs.Marks.{are_shared, shares_with, are_owned, marked, taken, ring_used, places_of, places_in, is_clear};
+ghost use Rattle.grant_book.specs.Sectors.{marked};
+ghost use Rattle.pool_import.specs.Marks.{are_shared, shares_with, are_owned, taken, places_of, places_in, is_clear};
 
 use crate::marks::Spot;
 use ddt_entry::Entry;
 use grant_book::SectorSet;
 use std::alloc::{AllocError, Global};
-
-/// The sectors of a pool, of which the ring's are used. The error is want of memory.
-pub fn with_ring(alloc: Global, sectors: u64) -> Result<SectorSet, AllocError>
-    requires { 32 ≤ sectors }
-    ensures { IfOk result (λ used. used ≡ ring_used sectors) }
-{
-    let mut used = SectorSet::new(alloc, sectors)?;
-    for sector in 0..32 {
-        used.set(sector, true);
-    }
-    Ok(used)
-}
 
 /// Whether a sector is used. One past the end isn't.
 fn is_used(used: &SectorSet, sector: u64) -> bool
@@ -30,31 +19,12 @@ fn is_used(used: &SectorSet, sector: u64) -> bool
     used.has(sector)
 }
 
-/// A sector is used from now on, unless it lies past the end.
-fn mark(used: &mut SectorSet, sector: u64)
-    ensures { used.new ≡ slice_set used.old sector true }
-{
-    if sector >= used.len() {
-        return;
-    }
-    used.set(sector, true);
-}
-
-/// These sectors are used from now on.
-pub fn mark_all(used: &mut SectorSet, sectors: &[u64])
-    ensures { used.new ≡ marked used.old sectors.now }
-{
-    'sectors: for sector in sectors {
-        mark(used, *sector);
-    }
-}
-
 /// The places of these slots are used from now on.
 pub fn mark_spots(used: &mut SectorSet, spots: &[Spot])
     ensures { used.new ≡ marked used.old (places_of spots.now) }
 {
     'spots: for spot in spots {
-        mark(used, spot.place);
+        used.mark(spot.place);
     }
 }
 
@@ -79,7 +49,7 @@ pub fn take_homes(used: &mut SectorSet, waiting: &[Entry]) -> bool
         if is_used(used, entry.home.place) {
             return false;
         }
-        mark(used, entry.home.place);
+        used.mark(entry.home.place);
     }
     true
 }

@@ -1,10 +1,20 @@
-//! How a pool comes back from an image.
+//! How a pool comes back from a disk.
 //!
-//! A flat image keeps its parts in five chains of pages (`page_tree`), each a list of records of 72 bytes.
-//! Here a chain is read, and its records become the slots, the entries or the changes that they spell, in
-//! their order; or the chain is found to be damaged, where a page isn't one or a record spells nothing.
-//! `read_flat` reads all five, in the order of the seal's pointers, and finds a sector that is named twice
-//! damaged. It is exactly `IsRead` of `table_state`, which says what makes of these parts a pool.
+//! `import` (`reader`) makes all that was written before last, finds the newest seal that counts, and
+//! answers by the pool that its image stands for: no pool where no seal counts, and `Damaged` only where
+//! the image stands for none (`StandsFor` of `table_state`). The steps under a seal are those of `sealed`:
+//!
+//! - its form is looked at;
+//! - `flat` reads the five chains of its pages, in the order of the seal's pointers, by `parts`, `records`,
+//!   `slots` and `changes`. A chain is damaged where a page isn't one or names a sector again, or where a
+//!   record spells nothing of what it should;
+//! - `made` makes the pool in memory, where the parts keep the rules that they keep together (`whole`), with
+//!   the table that they make (`tables`), and where the whole keeps its own (`judge`).
+//!
+//! `judge` looks at no content. It compares the seal's sums and each home's count with the slots that the
+//! table counts (`marks`, `judge_counts`, `judge_keys`), and sees that no page, no two blocks and no home
+//! that waits share a sector, unless the table counts two blocks under one key (`judge_places`).
+//! The pool that is found is sound whatever the disk tells: its numbers are in their ranges.
 #![tactic(auto)]
 
 mod changes;

@@ -1,13 +1,13 @@
 ghost use Rattle.std.specs.Prelude.{◌≡◌, ◌≤◌, ℕ, true, List, IfOk, IfSome, IsErrOf};
 ghost use Rattle.std.specs.List.{AllByRecursion};
 ghost use Rattle.disk_model.specs.Faults.{Rose};
+ghost use Rattle.ddt_entry.specs.Records.{IsKeyLength};
 ghost use Rattle.ddt_entry.specs.declared.entry.Entry.{Entry as AnEntry};
 ghost use Rattle.ddt_entry.specs.declared.entry.Change.{Change as AChange};
-ghost use Rattle.ddt_entry.specs.declared.entry.Change.TheVariants.{Entry as InEntry};
 ghost use Rattle.page_tree.specs.declared.fault.PageFault.TheVariants.{Damaged, ReadFault};
 ghost use Rattle.table_state.specs.declared.slot_record.SlotRecord.{SlotRecord};
 ghost use Rattle.table_state.specs.SlotRecords.{is_slot};
-ghost use Rattle.pool_import.specs.Lengths.{IsEntryLength};
+ghost use Rattle.table_state.specs.Sound.{HasLength};
 ghost use Rattle.pool_import.specs.Parts.{ReadsSlots, ReadsEntries, ReadsChanges, first_sector};
 
 use crate::changes::{changes_of, entries_of};
@@ -63,7 +63,7 @@ pub fn read_entries<D: Disk>(
 ) -> Result<EntryList, PageFault>
     ensures read { IfOk result (λ entries. IfSome (D.seen disk.now) (λ image.
         ReadsEntries image named.old.items root.now named.new.items entries.items)) }
-    ensures lengths { IfOk result (λ entries. AllByRecursion (λ entry. IsEntryLength (InEntry entry)) entries.items) }
+    ensures lengths { IfOk result (λ entries. AllByRecursion (λ entry. IsKeyLength entry.key.len) entries.items) }
     ensures damaged { (sector : ℕ) → IsErrOf result (Damaged sector) → IfSome (D.seen disk.now) (λ image.
         (after : List ℕ) (entries : List AnEntry) → ReadsEntries image named.old.items root.now after entries → ⊥) }
     ensures count { D.meter_faults meter.old ≤ D.meter_faults meter.new }
@@ -84,7 +84,7 @@ pub fn read_changes<D: Disk>(
 ) -> Result<ChangeList, PageFault>
     ensures read { IfOk result (λ log. IfSome (D.seen disk.now) (λ image.
         ReadsChanges image named.old.items root.now named.new.items log.items)) }
-    ensures lengths { IfOk result (λ log. AllByRecursion IsEntryLength log.items) }
+    ensures lengths { IfOk result (λ log. AllByRecursion HasLength log.items) }
     ensures damaged { (sector : ℕ) → IsErrOf result (Damaged sector) → IfSome (D.seen disk.now) (λ image.
         (after : List ℕ) (log : List AChange) → ReadsChanges image named.old.items root.now after log → ⊥) }
     ensures count { D.meter_faults meter.old ≤ D.meter_faults meter.new }

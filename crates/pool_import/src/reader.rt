@@ -7,7 +7,7 @@ ghost use Rattle.pool_model.specs.Table.{TableState};
 ghost use Rattle.pool_model.specs.declared.faults.SyncFault.TheVariants.{Damaged, ReadFault, WriteFault};
 ghost use Rattle.table_state.specs.Flat.{HasNoPool, IsDamaged};
 ghost use Rattle.table_state.specs.Pools.{IsHeld};
-ghost use Rattle.pool_import.specs.Imports.{IsSound};
+ghost use Rattle.table_state.specs.Sound.{IsSound};
 ghost use Rattle.pool_import.specs.Faults.{sync_fault_of, told_of};
 
 use crate::sealed::find_pool;
@@ -20,7 +20,8 @@ use table_state::Pool;
 
 /// The pool that the newest sealed group left on a disk, for a key function, and `None` where there is none.
 /// `Damaged` comes only where the image stands for no pool of this key function; the error `Memory` is want of
-/// memory. Where it succeeds, all that was written to the disk before is made to last.
+/// memory. Before it reads, all that was written to the disk is made to last: where that fails, nothing is
+/// said of the image, and the error is `WriteFault`.
 pub fn import<D: Disk, K: KeyOf>(
     alloc: Global,
     disk: &mut D,
@@ -31,9 +32,10 @@ pub fn import<D: Disk, K: KeyOf>(
     ensures none { IfOk result (λ found. IfNone found (IfSome (D.seen disk.old) HasNoPool)) }
     ensures pool { IfOk result (λ found. IfSome found (λ held. (held.tag ≡ K.tag_of keyer.now) × IfSome (D.seen disk.old) (λ image.
         (pool : APool) × (table : TableState) × IsHeld image held pool table))) }
-    ensures sound { IfOk result (λ found. IfSome found (IsSound (D.sectors_of disk.new))) }
+    ensures sound { IfOk result (λ found. IfSome found IsSound) }
+    ensures on_disk { IfOk result (λ found. IfSome found (λ held. held.sectors ≤ D.sectors_of disk.new)) }
     ensures damaged { (sector : ℕ) → IsErrOf result (Damaged sector) → IfSome (D.seen disk.old) (IsDamaged (K.tag_of keyer.now)) }
-    ensures durable { OnOk result (NothingPending (D.seen disk.new) (D.may_leave disk.new)) }
+    ensures durable { OnOk result (NothingPending (D.seen disk.old) (D.may_leave disk.new)) }
     ensures any_moment { LeavesOnly D.clock D.left_since disk.old disk.new (D.may_leave disk.old) }
     ensures reads { D.read_faults disk.old ≤ D.read_faults disk.new }
     ensures writes { D.write_faults disk.old ≤ D.write_faults disk.new }
@@ -45,13 +47,13 @@ pub fn import<D: Disk, K: KeyOf>(
     let Ok(mut meter) = disk.meter() else {
         return Err(SyncFault::WriteFault);
     };
-    let answer = find_pool(alloc, disk, &mut meter, tag);
-    disk.retire(meter);
-    let found = told(answer)?;
     let Ok(()) = disk.barrier() else {
+        disk.retire(meter);
         return Err(SyncFault::WriteFault);
     };
-    Ok(found)
+    let answer = find_pool(alloc, disk, &mut meter, tag);
+    disk.retire(meter);
+    told(answer)
 }
 
 /// The same answer, with the fault that an import tells.

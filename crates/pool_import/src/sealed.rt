@@ -6,7 +6,8 @@ ghost use Rattle.pool_model.specs.Pool.{Pool as APool};
 ghost use Rattle.pool_model.specs.Table.{TableState};
 ghost use Rattle.table_state.specs.Flat.{Flat, HasNoPool, IsDamaged, flat_version};
 ghost use Rattle.table_state.specs.Pools.{IsHeld};
-ghost use Rattle.pool_import.specs.Imports.{IsStanding, IsMadeOf, IsSound};
+ghost use Rattle.table_state.specs.Sound.{IsSound};
+ghost use Rattle.pool_import.specs.Imports.{IsStanding, IsMadeOf};
 
 use crate::flat::read_flat;
 use crate::made::pool_of;
@@ -31,7 +32,8 @@ pub fn find_pool<D: Disk>(
     ensures tagged { IfOk result (λ found. IfSome found (λ held. held.tag ≡ tag)) }
     ensures pool { IfOk result (λ found. IfSome found (λ held. IfSome (D.seen disk.now) (λ image.
         (pool : APool) × (table : TableState) × IsHeld image held pool table))) }
-    ensures sound { IfOk result (λ found. IfSome found (IsSound (D.sectors_of disk.now))) }
+    ensures sound { IfOk result (λ found. IfSome found IsSound) }
+    ensures on_disk { IfOk result (λ found. IfSome found (λ held. held.sectors ≤ D.sectors_of disk.now)) }
     ensures damaged { (sector : ℕ) → IsErrOf result (Damaged sector) → IfSome (D.seen disk.now) (IsDamaged tag) }
     ensures count { D.meter_faults meter.old ≤ D.meter_faults meter.new }
     ensures cause { IsErrOf result ReadFault → Rose (D.meter_faults meter.old) (D.meter_faults meter.new) }
@@ -57,7 +59,8 @@ pub fn sealed_pool<D: Disk>(
 ) -> Result<Pool, PageFault>
     ensures tagged { IfOk result (λ held. held.tag ≡ tag) }
     ensures pool { IfOk result (λ held. IfSome (D.seen disk.now) (λ image. IsMadeOf tag image seal.now held)) }
-    ensures sound { IfOk result (IsSound (D.sectors_of disk.now)) }
+    ensures sound { IfOk result IsSound }
+    ensures on_disk { IfOk result (λ held. held.sectors ≤ D.sectors_of disk.now) }
     ensures damaged { (sector : ℕ) → IsErrOf result (Damaged sector) →
         IfSome (D.seen disk.now) (λ image. (flat : Flat) → IsStanding tag image seal.now flat → ⊥) }
     ensures count { D.meter_faults meter.old ≤ D.meter_faults meter.new }

@@ -1,5 +1,6 @@
 use Rattle.std.proofs.Common.{◌≡◌, drop}
-use Rattle.pool_import.specs.Marks.{marked, places_of}
+use Rattle.grant_book.specs.Sectors.{marked}
+use Rattle.pool_import.specs.Marks.{places_of}
 use Rattle.pool_import.proofs.judge_places.mark_spots.Given as goal
 
 abbrev pub invariant-spots : goal.invariant-spots

@@ -1,8 +1,7 @@
 -- Where a call found damage, nothing stands under the seal.
-use Rattle.std.proofs.Common.{◌∙◌, rules, sym, subst}
-use Rattle.pool_import.specs.Imports.{IsSound}
+use Rattle.std.proofs.Common.{◌∙◌, rules, sym}
 use Rattle.pool_import.proofs.Sealing.{unread, broken}
-use Rattle.pool_import.proofs.Sounding.{sound_of}
+use Rattle.pool_import.proofs.Sounding.{sound_of, no_larger}
 use Rattle.pool_import.proofs.sealed.sealed_pool.Goals as goal
 
 pub returns-in_err-flat-clause-damaged : goal.returns-in_err-flat-clause-damaged
@@ -15,5 +14,8 @@ returns-in_default-clause-damaged g c sector fault =
 
 pub returns-clause-sound : goal.returns-clause-sound
 returns-clause-sound g c =
-    subst (λ n. IsSound n c.in-Some.pool) c.sectors.ensures.count
-    (sound_of c.args.tag c.sectors.result c.args.seal.now c.in_ok-flat.flat c.in-Some.pool (sym c.is_formed.ensures ∙ c.if-not-is_formed.false) c.in_ok-flat.ensures.slots (search rules))
+    sound_of c.args.tag c.sectors.result c.args.seal.now c.in_ok-flat.flat c.in-Some.pool (sym c.is_formed.ensures ∙ c.if-not-is_formed.false) c.in_ok-flat.ensures.slots c.in_ok-flat.ensures.lengths (search rules)
+
+pub returns-clause-on_disk : goal.returns-clause-on_disk
+returns-clause-on_disk g c =
+    no_larger c.args.tag c.sectors.result (g.D.Disk.sectors_of c.args.disk.now) c.args.seal.now c.in_ok-flat.flat c.in-Some.pool (sym c.is_formed.ensures ∙ c.if-not-is_formed.false) c.sectors.ensures.count (search rules)
