@@ -1,8 +1,12 @@
 use crate::crashes::{assert_is_of, homes, slots, two_writes, with_a_pointer};
 use crate::groups::{assert_holds, entry, group_of};
 use crate::sound_pool::imported;
+use ddt_entry::Entry;
 use pool_model::{ChangeList, SyncFault};
+use std::alloc::Global;
+use std::process::Abort;
 use std::test::Fail;
+use table_state::Pool;
 
 #[test]
 fn a_fault_is_told_as_what_it_was(rt: HostRuntime) -> Result<(), Fail> {
@@ -26,6 +30,18 @@ fn a_fault_is_told_as_what_it_was(rt: HostRuntime) -> Result<(), Fail> {
     Ok(())
 }
 
+/// An entry for each sector up to this one that a pool doesn't use.
+fn free_up_to(rt: &impl Abort, alloc: Global, pool: &Pool, last: u64) -> Result<Vec<Entry>, Fail> {
+    let mut blocks = Vec::new(alloc);
+    for place in 32..2048u64 {
+        assert!(rt; place < pool.used.len());
+        if place <= last && !pool.used.has(place) {
+            blocks.push(entry(7, place, 3, 1))?;
+        }
+    }
+    Ok(blocks)
+}
+
 #[test]
 fn without_room_for_the_pages_nothing_is_written(rt: HostRuntime) -> Result<(), Fail> {
     // One page of slots and one of the active log. The group has a block in each free sector up to this one, and of
@@ -37,13 +53,7 @@ fn without_room_for_the_pages_nothing_is_written(rt: HostRuntime) -> Result<(), 
         (2047, Err(SyncFault::Damaged(0))),
     ] {
         let (mut disk, mut pool) = with_a_pointer(&rt, alloc)?;
-        let mut blocks = Vec::new(alloc);
-        for place in 32..2048u64 {
-            assert!(rt; place < pool.pool.used.len());
-            if place <= last && !pool.pool.used.has(place) {
-                blocks.push(entry(7, place, 3, 1))?;
-            }
-        }
+        let blocks = free_up_to(&rt, alloc, &pool.pool, last)?;
         let mut closed = group_of(alloc, &[], blocks.as_slice())?;
         closed.changes = ChangeList::new(alloc);
         let made = disk.inner.calls_made();

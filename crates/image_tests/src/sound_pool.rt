@@ -1,13 +1,6 @@
-ghost use Rattle.std.specs.Prelude.{◌≡◌, ◌<◌, ℕ, true, slice_index_or};
-ghost use Rattle.std.specs.List.{AllByRecursion};
-ghost use Rattle.ddt_entry.specs.Records.{IsKeyLength};
-ghost use Rattle.table_state.specs.Sound.{HasLength, HasKeyLengths};
-
 use crate::silent_disk::SilentDisk;
-use ddt_entry::{Change, Entry, MAX_BLOCK_BYTES, Sha256Key, key_of};
+use ddt_entry::Sha256Key;
 use disk_model::Disk;
-use grant_book::SectorSet;
-use plain_table::PlainTable;
 use pool_import::import;
 use pool_model::{Closed, SyncFault};
 use std::alloc::Global;
@@ -70,70 +63,5 @@ pub(crate) fn imported(
     let Some(pool) = import(alloc, disk, &Sha256Key)? else {
         return Err("no pool was found".into());
     };
-    assert!(rt; has_ring(&pool.used));
-    assert!(rt; table_has_lengths(&pool.table));
     Ok(SoundPool { pool })
-}
-
-/// Whether the ring's sectors are used.
-fn has_ring(used: &SectorSet) -> bool
-    ensures { result ≡ true → (sector : ℕ) → sector < 32 → slice_index_or used.now sector true ≡ true }
-{
-    if used.len() < 32 {
-        return false;
-    }
-    for sector in 0..32 {
-        if !used.has(sector) {
-            return false;
-        }
-    }
-    true
-}
-
-/// Whether each key of a table has a length that a key can have.
-fn table_has_lengths(table: &PlainTable) -> bool
-    ensures { result ≡ true → HasKeyLengths table.now }
-{
-    if !entries_have_lengths(table.zap.as_slice()) {
-        return false;
-    }
-    if !changes_have_lengths(table.flush.as_slice()) {
-        return false;
-    }
-    changes_have_lengths(table.active.as_slice())
-}
-
-/// The same of a list of entries.
-fn entries_have_lengths(entries: &[Entry]) -> bool
-    ensures { result ≡ true → AllByRecursion (λ entry. IsKeyLength entry.key.len) entries.now }
-{
-    'each: for entry in entries {
-        if entry.key.len == 0 {
-            return false;
-        }
-        if entry.key.len > MAX_BLOCK_BYTES {
-            return false;
-        }
-    }
-    true
-}
-
-/// The same of a log.
-fn changes_have_lengths(log: &[Change]) -> bool
-    ensures { result ≡ true → AllByRecursion HasLength log.now }
-{
-    'each: for change in log {
-        if !has_length(change) {
-            return false;
-        }
-    }
-    true
-}
-
-/// The same of a change.
-fn has_length(change: &Change) -> bool
-    ensures { result ≡ true → HasLength change.now }
-{
-    let key = key_of(change);
-    key.len >= 1 && key.len <= MAX_BLOCK_BYTES
 }

@@ -1,5 +1,5 @@
 -- What the stages of a group's sync come to, one after another, where the disk tells its contents and where it doesn't.
-use Rattle.std.proofs.Common.{◌≡◌, ℕ, zero, suc, ◌<◌, ◌≤◌, List, [], ◌∷◌, ◌++◌, Option, Some, None, length, map, drop, get_or, refl, ap, subst, ◌∙◌, arith, inl}
+use Rattle.std.proofs.Common.{◌≡◌, ℕ, zero, suc, ◌<◌, ◌≤◌, List, [], ◌∷◌, ◌++◌, Option, Some, None, length, map, drop, get_or, refl, sym, ap, subst, ◌∙◌, arith, inl}
 use Rattle.std.specs.Prelude.{slice_set}
 use Rattle.std.specs.List.{AllByRecursion}
 use Rattle.disk_model.specs.Images.{Image, IsImage, TellsImage, Holds}
@@ -16,8 +16,8 @@ use Rattle.pool_model.specs.declared.closed.StoredBlock.{StoredBlock}
 use Rattle.pool_model.specs.Plain.{Stored, stored_of}
 use Rattle.table_state.specs.Flat.{flat_version}
 use Rattle.table_state.specs.Sealed.{ChainPart, places_in, roots_of}
-use Rattle.txg_sync.specs.Stages.{TakingLeaves, IsTaken, Takes}
-use Rattle.txg_sync.specs.Writing.{block_places, group_places, with_roots, StoresParts, MayBeSealed, Seals, FollowsSeal}
+use Rattle.txg_sync.specs.Stages.{TakingLeaves, IsTaken, Takes, IsFilled, Fills}
+use Rattle.txg_sync.specs.Writing.{block_places, group_places, with_roots, StoresParts, IsUnsealed, MayBeSealed, Seals, FollowsSeal}
 use Rattle.txg_sync.proofs.Filling.{AreBehindRing, unsealed_taking, unsealed_stored, unsealed_body, sealed_gate, sealed_opened}
 use Rattle.txg_sync.proofs.Sealing.{holds_some, only_told}
 
@@ -62,20 +62,37 @@ module _ (sectors : ℕ) (enough : fewest_sectors ≤ sectors) (seal : Seal) (co
   abbrev rooted : Seal
   rooted = with_roots seal parts
 
-  -- all stages succeeded
-  pub seals_of : (own_version : seal.version ≡ flat_version) (sealed : Seal) (is_sealed : sealed ≡ with_roots seal parts) (fits : FitsSeal sealed) (old mid later filled new : Option Image) → TellsImage sectors old → FollowsSeal seal.group old → Takes slot old mid → StoresParts contents parts mid later → TellsImage sectors later
-      → Holds later filled (body_sector (slot_of sealed.group)) (body_bytes sealed) → Holds filled new (gate_sector slot) open_gate → Seals slot contents parts rooted old new
-  seals_of own_version sealed is_sealed fits None mid later filled new is follows takes stores whole fills opens = tt
-  seals_of own_version sealed is_sealed fits (Some image) mid later filled new is follows takes stores whole fills opens =
+  -- all but the gate was written
+  pub fills_of : (sealed : Seal) (is_sealed : sealed ≡ with_roots seal parts) (fits : FitsSeal sealed) (old mid later filled : Option Image) → TellsImage sectors old → Takes slot old mid → StoresParts contents parts mid later → TellsImage sectors later
+      → Holds later filled (body_sector (slot_of sealed.group)) (body_bytes sealed) → Fills contents parts rooted old filled
+  fills_of sealed is_sealed fits None mid later filled is takes stores whole fills = tt
+  fills_of sealed is_sealed fits (Some image) mid later filled is takes stores whole fills =
       let taken : Image = takes.0 in
       let stores_here : StoresParts contents parts (Some taken) later = subst (λ (o : Option Image). StoresParts contents parts o later) takes.1 stores in
       let stored : Image = stores_here.0 in
       let fills_here : Holds later filled (body_sector slot) (body_bytes rooted) = subst (λ (s : Seal). Holds later filled (body_sector (slot_of s.group)) (body_bytes s)) is_sealed fills in
-      let seen_filled = holds_some stored later filled (body_sector slot) (body_bytes rooted) stores_here.1 fills_here in
       let is_whole : IsImage sectors stored = subst (λ (o : Option Image). TellsImage sectors o) stores_here.1 whole in (
-        slice_set (slice_set stored (body_sector slot) (body_bytes rooted)) (gate_sector slot) open_gate,
-        holds_some _ filled new _ _ seen_filled opens,
-        sealed_opened seal.group sectors image is enough follows.0 follows.1 follows.2 contents parts behind_ring on_disk taken takes.2 stored stores_here.2.only stores_here.2 rooted (subst FitsSeal is_sealed fits) refl own_version is_whole,
+        slice_set stored (body_sector slot) (body_bytes rooted),
+        holds_some stored later filled (body_sector slot) (body_bytes rooted) stores_here.1 fills_here,
+        record {
+          taken = taken;
+          is_taken = takes.2;
+          stored = stored;
+          is_stored = stores_here.2;
+          whole = subst (λ n. IsImage n stored) (sym is.count) is_whole;
+          fits = subst FitsSeal is_sealed fits;
+          body = refl;
+        },
+      )
+
+  -- and then the gate was opened
+  pub seals_of : (own_version : seal.version ≡ flat_version) (old filled new : Option Image) → TellsImage sectors old → FollowsSeal seal.group old → Fills contents parts rooted old filled → Holds filled new (gate_sector slot) open_gate → Seals slot contents parts rooted old new
+  seals_of own_version None filled new is follows fills opens = tt
+  seals_of own_version (Some image) filled new is follows fills opens =
+      let f : IsFilled contents parts rooted image fills.0 = fills.2 in (
+        slice_set (slice_set f.stored (body_sector slot) (body_bytes rooted)) (gate_sector slot) open_gate,
+        holds_some _ filled new _ _ (fills.1 ∙ ap (λ (c : Image). Some c) f.body) opens,
+        sealed_opened seal.group sectors image is enough follows.0 follows.1 follows.2 contents parts behind_ring on_disk f.taken f.is_taken f.stored f.is_stored.only f.is_stored rooted f.fits refl own_version (subst (λ n. IsImage n f.stored) is.count f.whole),
       )
 
   module _ {D : Type 0} (clock : D → ℕ) (left_since : D → ℕ → Image → Type 0) (may_leave : D → Image → Type 0) (seen : D → Option Image) (image : Image) (old : D) (told : seen old ≡ Some image) (tells : TellsImage sectors (seen old)) (follows_old : FollowsSeal seal.group (seen old)) where
@@ -85,61 +102,65 @@ module _ (sectors : ℕ) (enough : fewest_sectors ≤ sectors) (seal : Seal) (co
     follows : FollowsSeal seal.group (Some image)
     follows = subst (FollowsSeal seal.group) told follows_old
 
-    abbrev P : Image → Type 0
-    P = MayBeSealed slot contents parts rooted image
+    abbrev Before : Image → Type 0
+    Before = IsUnsealed slot (group_places contents parts) image
+
+    abbrev Either : Image → Type 0
+    Either = MayBeSealed slot contents parts rooted image
+
+    -- where the gate was not reached
+    pub group_unsealed : (filled : D) → LeavesOnly clock left_since old filled Before → LeavesOnly clock left_since old filled Either
+    group_unsealed filled run = weakened clock left_since old filled Before Either run (λ c unsealed. inl unsealed)
+
+    -- while the gate is opened
+    pub group_opening : (own_version : seal.version ≡ flat_version) (filled new : D) → LeavesOnly clock left_since old filled Before → Fills contents parts rooted (seen old) (seen filled) → NothingPending (seen filled) (may_leave filled)
+        → LeavesOnly clock left_since filled new (OpeningLeaves slot (may_leave filled)) → LeavesOnly clock left_since old new Either
+    group_opening own_version filled new filling fills still opening =
+        and_then clock left_since old filled new Either (group_unsealed filled filling)
+        (weakened clock left_since filled new (OpeningLeaves slot (may_leave filled)) Either opening each)
+      where
+        fills_here : Fills contents parts rooted (Some image) (seen filled)
+        fills_here = subst (λ (o : Option Image). Fills contents parts rooted o (seen filled)) told fills
+
+        f : IsFilled contents parts rooted image fills_here.0
+        f = fills_here.2
+
+        each : (c : Image) → OpeningLeaves slot (may_leave filled) c → Either c
+        each c from =
+            sealed_gate seal.group sectors image is enough follows.0 follows.1 follows.2 contents parts behind_ring on_disk f.taken f.is_taken f.stored f.is_stored.only f.is_stored rooted f.fits refl own_version
+            (subst (λ n. IsImage n f.stored) is.count f.whole) c
+            (subst (λ (d : Image). GateTorn slot d c) (only_told _ (seen filled) (may_leave filled) (fills_here.1 ∙ ap (λ (d : Image). Some d) f.body) still from.0 from.1) from.2)
 
     -- while the slot is taken
-    pub group_taking : (mid : D) → LeavesOnly clock left_since old mid (TakingLeaves slot image) → LeavesOnly clock left_since old mid P
+    pub group_taking : (mid : D) → LeavesOnly clock left_since old mid (TakingLeaves slot image) → LeavesOnly clock left_since old mid Before
     group_taking mid run =
-        weakened clock left_since old mid (TakingLeaves slot image) P run (λ c taking. inl (unsealed_taking seal.group sectors image is enough follows.0 follows.1 follows.2 contents parts behind_ring on_disk c taking))
+        weakened clock left_since old mid (TakingLeaves slot image) Before run (λ c taking. (unsealed_taking seal.group sectors image is enough follows.0 follows.1 follows.2 contents parts behind_ring on_disk c taking))
 
     module _ (mid : D) (taking : LeavesOnly clock left_since old mid (TakingLeaves slot image)) (takes : Takes slot (seen old) (seen mid)) (still : NothingPending (seen mid) (may_leave mid)) where
       taken : (taken : Image) × (seen mid ≡ Some taken) × IsTaken slot image taken
       taken = subst (λ (o : Option Image). Takes slot o (seen mid)) told takes
 
       -- while blocks and pages are written
-      pub group_storing : (later : D) → LeavesOnly clock left_since mid later (ChainLeaves (group_places contents parts) (may_leave mid)) → LeavesOnly clock left_since old later P
+      pub group_storing : (later : D) → LeavesOnly clock left_since mid later (ChainLeaves (group_places contents parts) (may_leave mid)) → LeavesOnly clock left_since old later Before
       group_storing later storing =
-          and_then clock left_since old mid later P (group_taking mid taking)
-          (weakened clock left_since mid later (ChainLeaves (group_places contents parts) (may_leave mid)) P storing
-          (λ c from. inl (unsealed_stored seal.group sectors image is enough follows.0 follows.1 follows.2 contents parts behind_ring on_disk taken.0 taken.2 c (stored_from c from))))
+          and_then clock left_since old mid later Before (group_taking mid taking)
+          (weakened clock left_since mid later (ChainLeaves (group_places contents parts) (may_leave mid)) Before storing
+          (λ c from. (unsealed_stored seal.group sectors image is enough follows.0 follows.1 follows.2 contents parts behind_ring on_disk taken.0 taken.2 c (stored_from c from))))
         where
           stored_from : (c : Image) → ChainLeaves (group_places contents parts) (may_leave mid) c → SameBut (group_places contents parts) taken.0 c
           stored_from c from = subst (λ (d : Image). SameBut (group_places contents parts) d c) (only_told taken.0 (seen mid) (may_leave mid) taken.1 still from.0 from.1) from.2
 
       module _ (later : D) (storing : LeavesOnly clock left_since mid later (ChainLeaves (group_places contents parts) (may_leave mid))) (at_end : (c : Image) → may_leave later c → ChainLeaves (group_places contents parts) (may_leave mid) c)
-          (own_version : seal.version ≡ flat_version) (sealed : Seal) (is_sealed : sealed ≡ with_roots seal parts) (fits : FitsSeal sealed) where
+          (sealed : Seal) (is_sealed : sealed ≡ with_roots seal parts) (fits : FitsSeal sealed) where
         -- while the body is written
-        pub group_filling : (filled : D) → LeavesOnly clock left_since later filled (WritingLeaves (slot_of sealed.group) (may_leave later)) → LeavesOnly clock left_since old filled P
+        pub group_filling : (filled : D) → LeavesOnly clock left_since later filled (WritingLeaves (slot_of sealed.group) (may_leave later)) → LeavesOnly clock left_since old filled Before
         group_filling filled filling =
-            and_then clock left_since old later filled P (group_storing later storing)
-            (weakened clock left_since later filled (WritingLeaves (slot_of sealed.group) (may_leave later)) P filling each)
+            and_then clock left_since old later filled Before (group_storing later storing)
+            (weakened clock left_since later filled (WritingLeaves (slot_of sealed.group) (may_leave later)) Before filling each)
           where
-            each : (c : Image) → WritingLeaves (slot_of sealed.group) (may_leave later) c → P c
+            each : (c : Image) → WritingLeaves (slot_of sealed.group) (may_leave later) c → Before c
             each c from =
                 let earlier = at_end from.0 from.1 in
-                inl (unsealed_body seal.group sectors image is enough follows.0 follows.1 follows.2 contents parts behind_ring on_disk taken.0 taken.2 from.0
+                (unsealed_body seal.group sectors image is enough follows.0 follows.1 follows.2 contents parts behind_ring on_disk taken.0 taken.2 from.0
                 (subst (λ (d : Image). SameBut (group_places contents parts) d from.0) (only_told taken.0 (seen mid) (may_leave mid) taken.1 still earlier.0 earlier.1) earlier.2)
                 c (subst (λ (s : Seal). BodyTorn (slot_of s.group) from.0 c) is_sealed from.2))
-
-        -- while the gate is opened
-        pub group_opening : (filled new : D) → LeavesOnly clock left_since later filled (WritingLeaves (slot_of sealed.group) (may_leave later)) → StoresParts contents parts (seen mid) (seen later) → TellsImage sectors (seen later)
-            → Holds (seen later) (seen filled) (body_sector (slot_of sealed.group)) (body_bytes sealed) → NothingPending (seen filled) (may_leave filled) → LeavesOnly clock left_since filled new (OpeningLeaves slot (may_leave filled)) → LeavesOnly clock left_since old new P
-        group_opening filled new filling stores whole fills still_filled opening =
-            and_then clock left_since old filled new P (group_filling filled filling)
-            (weakened clock left_since filled new (OpeningLeaves slot (may_leave filled)) P opening each)
-          where
-            stores_here : StoresParts contents parts (Some taken.0) (seen later)
-            stores_here = subst (λ (o : Option Image). StoresParts contents parts o (seen later)) taken.1 stores
-
-            fills_here : Holds (seen later) (seen filled) (body_sector slot) (body_bytes rooted)
-            fills_here = subst (λ (s : Seal). Holds (seen later) (seen filled) (body_sector (slot_of s.group)) (body_bytes s)) is_sealed fills
-
-            seen_filled : seen filled ≡ Some (slice_set stores_here.0 (body_sector slot) (body_bytes rooted))
-            seen_filled = holds_some stores_here.0 (seen later) (seen filled) (body_sector slot) (body_bytes rooted) stores_here.1 fills_here
-
-            each : (c : Image) → OpeningLeaves slot (may_leave filled) c → P c
-            each c from =
-                sealed_gate seal.group sectors image is enough follows.0 follows.1 follows.2 contents parts behind_ring on_disk taken.0 taken.2 stores_here.0 stores_here.2.only stores_here.2 rooted (subst FitsSeal is_sealed fits) refl own_version
-                (subst (λ (o : Option Image). TellsImage sectors o) stores_here.1 whole) c
-                (subst (λ (d : Image). GateTorn slot d c) (only_told _ (seen filled) (may_leave filled) seen_filled still_filled from.0 from.1) from.2)

@@ -22,7 +22,7 @@ use Rattle.table_state.proofs.FlatLaws.{one_state}
 use Rattle.table_state.proofs.Stands.{open_wider}
 use Rattle.txg_sync.specs.Planning.{Group, IsPlan}
 use Rattle.txg_sync.specs.Syncing.{CanSync, CanSyncOver, IsInRange, SyncLeaves, Syncs}
-use Rattle.txg_sync.specs.Writing.{group_places, with_roots, FollowsSeal, MayBeSealed, Seals, TouchesOnly}
+use Rattle.txg_sync.specs.Writing.{group_places, with_roots, FollowsSeal, IsUnsealed, MayBeSealed, Seals, TouchesOnly}
 use Rattle.txg_sync.proofs.Outcomes.{stands_before_gate, not_written}
 use Rattle.txg_sync.proofs.Afterwards.{AreSpelt, held_after, stands_after}
 
@@ -53,6 +53,16 @@ module _ (held : Held) (group : Group) (sound : IsSound held) (next : Held) (par
     seal_group_is ∙ ap (λ n. n + 1) (can.is_held.group_is ∙ ap (λ (p : Pool). p.group) can.is_held.stands.pool_is),
   )
 
+  module _ (image : Image) (can : CanSync image held group) (pool : Pool) (table : TableState) (is : IsHeld image held pool table) where
+    same_pool : (can.pool ≡ pool) × (can.table ≡ table)
+    same_pool = one_state held.tag image can.pool pool can.table table can.is_held.stands is.stands
+
+    -- before the gate may be open the image stands for the pool before
+    pub before_gate : (c : Image) → IsUnsealed (slot_of seal.group) (group_places group.contents parts) image c → StandsFor held.tag c pool table
+    before_gate c unsealed =
+        subst (λ (t : TableState). StandsFor held.tag c pool t) same_pool.1 (subst (λ (p : Pool). StandsFor held.tag c p can.table) same_pool.0
+        (stands_before_gate image held group can sound parts plan.placed.unused (slot_of seal.group) c (omega arith) unsealed))
+
   module _ (range : IsInRange held group) (last : held.group + 1 ≤ last_group) (spelt : AreSpelt next.slots next.table) where
     -- the group was synced
     pub syncs_of : (sectors : ℕ) (old new : Option Image) → TellsImage sectors old → held.sectors ≤ sectors → sectors ≤ 2 ^ 64 → CanSyncOver old held group → Seals (slot_of seal.group) group.contents parts (with_roots seal parts) old new → Syncs old held group next new
@@ -64,9 +74,6 @@ module _ (held : Held) (group : Group) (sound : IsSound held) (next : Held) (par
     )
 
     module _ (image : Image) (there : held.sectors ≤ length image) (small : length image ≤ 2 ^ 64) (can : CanSync image held group) (pool : Pool) (table : TableState) (is : IsHeld image held pool table) where
-      same_pool : (can.pool ≡ pool) × (can.table ≡ table)
-      same_pool = one_state held.tag image can.pool pool can.table table can.is_held.stands is.stands
-
       untouched : (places : List ℕ) (c : Image) → TouchesOnly (slot_of seal.group) places image c → ((at : ℕ) → slice_index_or held.used at true ≡ true → list_any (λ place. place == at) places ≡ false)
           → (at : ℕ) → at ≢ gate_sector (slot_of (held.group + 1)) → at ≢ body_sector (slot_of (held.group + 1)) → slice_index_or held.used at true ≡ true → sector_at c at ≡ sector_at image at
       untouched places c only none at gate body used =
@@ -77,8 +84,7 @@ module _ (held : Held) (group : Group) (sound : IsSound held) (next : Held) (par
       leaves_of c may =
           ⊎_elim
           (λ unsealed. record {
-            stands = inl (subst (λ (t : TableState). StandsFor held.tag c pool t) same_pool.1 (subst (λ (p : Pool). StandsFor held.tag c p can.table) same_pool.0
-                (stands_before_gate image held group can sound parts plan.placed.unused (slot_of seal.group) c (omega arith) unsealed)));
+            stands = inl (before_gate image can pool table is c unsealed);
             only = untouched (group_places group.contents parts) c unsealed.only (not_written image held group can sound parts plan.placed.unused);
           })
           (λ sealed. record {

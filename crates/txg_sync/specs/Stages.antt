@@ -1,12 +1,17 @@
 -- What the stages of a sync leave, of told contents and after a crash.
-use Rattle.std.specs.Prelude.{◌≡◌, ◌≢◌, ◌⊎◌, ⊤, ℕ, false, length, Option, Some, None}
-use Rattle.disk_model.specs.Images.{Image, Torn, sector_at}
-use Rattle.uber_ring.specs.Ring.{gate_sector, body_sector, gate_is_open, seal_at, newest, SameElsewhere}
+use Rattle.std.specs.Prelude.{◌≡◌, ◌≢◌, ◌⊎◌, ⊤, ℕ, false, List, length, slice_set, Option, Some, None}
+use Rattle.disk_model.specs.Images.{Image, IsImage, Torn, sector_at}
+use Rattle.uber_ring.specs.Ring.{slot_of, gate_sector, body_sector, gate_is_open, seal_at, newest, SameElsewhere}
+use Rattle.uber_ring.specs.Seals.{FitsSeal, body_bytes}
+use Rattle.uber_ring.specs.declared.seal.Seal.{Seal}
+use Rattle.pool_model.specs.Plain.{Stored}
 use Rattle.pool_model.specs.Pool.{empty_pool}
 use Rattle.pool_model.specs.Table.{empty_table}
 use Rattle.table_state.specs.Pools.{Held, IsHeld}
 use Rattle.table_state.specs.SealForms.{new_seal}
 use Rattle.table_state.specs.Flat.{StandsFor, flat_version}
+use Rattle.table_state.specs.Sealed.{ChainPart}
+use Rattle.txg_sync.specs.Writing.{IsStored}
 
 -- while a slot is taken nothing but its gate may change, and it shows the seal that it showed before, or none
 pub record TakingLeaves (slot : ℕ) (image c : Image) : Type 0 where
@@ -56,3 +61,17 @@ HasNoSeal (Some image) = newest flat_version image ≡ None
 abbrev pub Creates : (old new : Option Image) → Held → Type 0
 Creates None new held = ⊤
 Creates (Some image) new held = (c : Image) × (new ≡ Some c) × IsHeld c held empty_pool empty_table × SameOutside 1 image c
+
+-- all of a group but its gate is written: its slot is taken, its blocks and pages stand at their places, and the body holds its seal
+pub record IsFilled (contents : List Stored) (parts : List ChainPart) (seal : Seal) (image c : Image) : Type 0 where
+  pub taken : Image
+  pub is_taken : IsTaken (slot_of seal.group) image taken
+  pub stored : Image
+  pub is_stored : IsStored contents parts taken stored
+  pub whole : IsImage (length image) stored
+  pub fits : FitsSeal seal
+  pub body : c ≡ slice_set stored (body_sector (slot_of seal.group)) (body_bytes seal)
+
+abbrev pub Fills : (contents : List Stored) → (parts : List ChainPart) → Seal → (old new : Option Image) → Type 0
+Fills contents parts seal None new = ⊤
+Fills contents parts seal (Some image) new = (c : Image) × (new ≡ Some c) × IsFilled contents parts seal image c

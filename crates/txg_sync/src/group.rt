@@ -6,7 +6,8 @@ ghost use Rattle.page_tree.specs.Chains.{pages_for, AreOpen};
 ghost use Rattle.uber_ring.specs.Ring.{slot_of};
 ghost use Rattle.pool_model.specs.Plain.{stored_of};
 ghost use Rattle.table_state.specs.Sealed.{places_in};
-ghost use Rattle.txg_sync.specs.Writing.{with_roots, FollowsSeal, MayBeSealed, Seals};
+ghost use Rattle.txg_sync.specs.Stages.{Fills};
+ghost use Rattle.txg_sync.specs.Writing.{with_roots, group_places, FollowsSeal, IsUnsealed, MayBeSealed, Seals};
 ghost use Rattle.txg_sync.specs.declared.fault.SealFault.TheVariants.{ReadFault, WriteFault};
 
 use crate::fault::SealFault;
@@ -26,9 +27,54 @@ fn with_pointers(seal: &Seal, pointers: [PagePtr; 6]) -> Seal
     Seal { pointers, ..*seal }
 }
 
-/// Seals a group behind the newest one: takes its slot of the ring, writes its blocks and the pages of its
-/// five chains, and then the body of its seal, whose roots are those of the chains, and opens the gate.
-/// Takes no memory.
+/// Writes all of a group but its gate, behind the newest sealed group: takes its slot of the ring, writes its
+/// blocks and the pages of its five chains, and then the body of its seal, whose roots are those of the chains.
+/// Up to its end, also where it fails, a crash leaves the seal that counted before. Takes no memory.
+pub fn fill_group<D: Disk>(
+    disk: &mut D,
+    seal: &Seal,
+    contents: &[StoredBlock],
+    parts: &[ChainPages],
+) -> Result<(), SealFault>
+    requires enough { 2048 ≤ D.sectors_of disk.old }
+    requires follows { FollowsSeal seal.now.group (D.seen disk.old) }
+    requires version { seal.now.version ≡ 0 }
+    requires behind { All (λ stored. 32 ≤ stored.place) contents.now }
+    requires within { All (λ stored. stored.place < D.sectors_of disk.old) contents.now }
+    requires lengths { All (λ stored. length stored.block.items ≤ 4096) contents.now }
+    requires chains { length parts.now ≡ 5 }
+    requires pages { All (λ part. length part.places ≡ pages_for (length part.records)) parts.now }
+    requires places { AreOpen (D.sectors_of disk.old) [] (places_in parts.now) }
+    ensures sectors { D.sectors_of disk.new ≡ D.sectors_of disk.old }
+    ensures filled { OnOk result (Fills (map stored_of contents.now) parts.now (with_roots seal.now parts.now) (D.seen disk.old) (D.seen disk.new)) }
+    ensures durable { OnOk result (NothingPending (D.seen disk.new) (D.may_leave disk.new)) }
+    ensures any_moment { (image : Image) → D.seen disk.old ≡ Some image → NothingPending (Some image) (D.may_leave disk.old)
+        → LeavesOnly D.clock D.left_since disk.old disk.new (IsUnsealed (slot_of seal.now.group) (group_places (map stored_of contents.now) parts.now) image) }
+    ensures unread { IsErrOf result ReadFault → Stays (D.seen disk.old) (D.seen disk.new) }
+    ensures reads { D.read_faults disk.old ≤ D.read_faults disk.new }
+    ensures writes { D.write_faults disk.old ≤ D.write_faults disk.new }
+    ensures read_cause { IsErrOf result ReadFault → Rose (D.read_faults disk.old) (D.read_faults disk.new) }
+    ensures write_cause { IsErrOf result WriteFault → Rose (D.write_faults disk.old) (D.write_faults disk.new) }
+{
+    crash_laws(disk);
+    let _sectors = disk.sectors();
+    let slot = (seal.group % 16) as u32;
+    take_slot(disk, slot)?;
+    let mut pointers = [PagePtr::NULL; 6];
+    let Ok(()) = store_group(disk, contents, parts, &mut pointers) else {
+        return Err(SealFault::WriteFault);
+    };
+    crash_laws(disk);
+    let _stored = disk.sectors();
+    let sealed = with_pointers(seal, pointers);
+    seal_fits(sealed);
+    let Ok(()) = fill_slot(disk, &sealed) else {
+        return Err(SealFault::WriteFault);
+    };
+    Ok(())
+}
+
+/// Seals a group behind the newest one: writes all of it but its gate, and opens the gate. Takes no memory.
 pub fn seal_group<D: Disk>(
     disk: &mut D,
     seal: &Seal,
@@ -57,19 +103,8 @@ pub fn seal_group<D: Disk>(
 {
     crash_laws(disk);
     let _sectors = disk.sectors();
+    fill_group(disk, seal, contents, parts)?;
     let slot = (seal.group % 16) as u32;
-    take_slot(disk, slot)?;
-    let mut pointers = [PagePtr::NULL; 6];
-    let Ok(()) = store_group(disk, contents, parts, &mut pointers) else {
-        return Err(SealFault::WriteFault);
-    };
-    crash_laws(disk);
-    let _stored = disk.sectors();
-    let sealed = with_pointers(seal, pointers);
-    seal_fits(sealed);
-    let Ok(()) = fill_slot(disk, &sealed) else {
-        return Err(SealFault::WriteFault);
-    };
     let Ok(()) = open_slot(disk, slot) else {
         return Err(SealFault::WriteFault);
     };

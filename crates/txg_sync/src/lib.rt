@@ -4,9 +4,10 @@
 //! `sync` plans first (`plan_group`): it takes all memory, makes the slots, the table, the records of the
 //! five chains and the seal that the group leaves, and chooses a sector for each page that nothing in the
 //! newest sealed image names. Then it writes (`seal_group`), which takes no memory. The seal goes into the
-//! slot of the ring that its group has: the slot is taken, its gate closed where it reads open, and a
-//! barrier made; the blocks, the chains and the body are written, and a barrier made; the gate is
-//! opened, and a barrier made. `create` does so for the empty pool of group 1.
+//! slot of the ring that its group has. All but the gate comes first (`fill_group`), and leaves the group
+//! before whatever happens: the slot is taken, its gate closed where it reads open, and a barrier made; the
+//! blocks, the chains and the body are written, and a barrier made. Then the gate is opened, and a barrier
+//! made. `create` does so for the empty pool of group 1.
 //!
 //! `specs/Planning.antt` says what is going to be written, `specs/Writing.antt` and `specs/Stages.antt` what
 //! each stage may leave, and `specs/Syncing.antt` when a group can be synced and what its sync comes to.
@@ -39,10 +40,10 @@ pub use creating::create;
 pub use fault::SealFault;
 pub use fill::fill_slot;
 pub use fits::{slots_fit, table_fits};
-pub use group::seal_group;
+pub use group::{fill_group, seal_group};
 pub use group_seal::seal_of;
 pub use in_range::is_in_range;
-pub use laws::need_is_enough;
+pub use laws::{before_the_gate, need_is_enough};
 pub use next_slots::slots_after;
 pub use part::ChainPages;
 pub use places::place_chains;

@@ -1,5 +1,5 @@
 -- The blocks in their plain form.
-use Rattle.std.proofs.Common.{◌≡◌, ◌≤◌, ◌<◌, true, List, [], ◌∷◌, length, map}
+use Rattle.std.proofs.Common.{◌≤◌, ◌<◌, List, [], ◌∷◌, length, map}
 use Rattle.std.specs.List.{AllByRecursion}
 use Rattle.pool_model.specs.Plain.{stored_of}
 use Rattle.txg_sync.proofs.in_range.blocks_within.Goals as goal
