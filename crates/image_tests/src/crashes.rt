@@ -1,6 +1,6 @@
 use crate::groups::{assert_holds, entry, group_of, slot};
 use crate::silent_disk::SilentDisk;
-use crate::sound_pool::{SoundPool, begin, imported};
+use crate::sound_pool::{SoundPool, created, imported};
 use ddt_entry::Entry;
 use disk_model::MemDisk;
 use pool_model::Closed;
@@ -42,7 +42,7 @@ pub(crate) fn with_a_pointer(
     let mut disk = SilentDisk {
         inner: MemDisk::new(alloc, 2048)?,
     };
-    begin(rt, &mut disk)?;
+    created(rt, alloc, &mut disk)?;
     let mut pool = imported(rt, alloc, &mut disk)?;
     let [home, _, _] = homes();
     let [held, _, _] = slots();

@@ -1,8 +1,10 @@
 use crate::crashes::{assert_is_of, homes, slots, two_writes, with_a_pointer};
 use crate::groups::{assert_holds, entry, group_of};
-use crate::sound_pool::imported;
+use crate::silent_disk::SilentDisk;
+use crate::sound_pool::{created, imported};
 use ddt_entry::Entry;
-use pool_model::{ChangeList, SyncFault};
+use disk_model::MemDisk;
+use pool_model::{ChangeList, Outcome, SyncFault};
 use std::alloc::Global;
 use std::process::Abort;
 use std::test::Fail;
@@ -69,5 +71,54 @@ fn without_room_for_the_pages_nothing_is_written(rt: HostRuntime) -> Result<(), 
             assert_holds(&rt, alloc, &found, 3, &[held], &[home])?;
         }
     }
+    Ok(())
+}
+
+/// The outcome of a group of so many commands and writes for which a pool has no room.
+fn lacking(rt: &impl Abort, pool: &Pool, commands: u64, writes: u64) -> Option<Outcome> {
+    assert!(rt; commands <= 1_048_576);
+    assert!(rt; writes <= 1_048_576);
+    pool.no_space(commands, writes)
+}
+
+#[test]
+fn a_group_that_needs_more_than_is_free_has_no_space(rt: HostRuntime) -> Result<(), Fail> {
+    // An empty pool has no pages, and 2,016 of its 2,048 sectors are free.
+    let mut disk = SilentDisk {
+        inner: MemDisk::new(rt.alloc(), 2048)?,
+    };
+    let made = created(&rt, rt.alloc(), &mut disk)?;
+    let pool = &made.pool;
+    assert_eq!(rt; pool.group(), 1);
+    assert_eq!(rt; pool.pages(), 0);
+    assert_eq!(rt; pool.free(), 2016);
+    for (commands, writes, outcome) in [
+        (64u64, 64u64, None),
+        (
+            65,
+            65,
+            Some(Outcome::NoSpace {
+                need: 2027,
+                free: 2016,
+            }),
+        ),
+        (65, 54, None),
+        (
+            66,
+            54,
+            Some(Outcome::NoSpace {
+                need: 2028,
+                free: 2016,
+            }),
+        ),
+        (1, 0, None),
+    ] {
+        assert_eq!(rt;
+            lacking(&rt, pool, commands, writes),
+            outcome,
+            "{commands} commands, {writes} writes"
+        );
+    }
+    assert_eq!(rt; pool.need(1, 0), 398);
     Ok(())
 }

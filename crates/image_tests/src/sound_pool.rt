@@ -8,7 +8,7 @@ use std::marker::Model;
 use std::process::Abort;
 use std::test::Fail;
 use table_state::{LAST_GROUP, Pool};
-use txg_sync::{is_in_range, seal_new_pool, sync};
+use txg_sync::{create, is_in_range, sync};
 
 /// A pool in memory whose numbers are in their ranges.
 #[derive(Drop)]
@@ -46,12 +46,18 @@ impl SoundPool {
     }
 }
 
-/// Seals a new pool on a disk of its size.
-pub(crate) fn begin(rt: &impl Abort, disk: &mut SilentDisk) -> Result<(), Fail> {
+/// Creates a pool on a disk of its size.
+pub(crate) fn created(
+    rt: &impl Abort,
+    alloc: Global,
+    disk: &mut SilentDisk,
+) -> Result<SoundPool, Fail> {
     assert!(rt; disk.sectors() >= 2048);
     assert!(rt; disk.sectors() <= 1_000_000);
-    seal_new_pool(disk, 1)?;
-    Ok(())
+    let Ok(pool) = create(alloc, disk, 1) else {
+        return Err("no pool was created".into());
+    };
+    Ok(SoundPool { pool })
 }
 
 /// The pool that a disk has to import.

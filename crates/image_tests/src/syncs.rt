@@ -1,6 +1,6 @@
 use crate::groups::{assert_holds, entry, group_of, slot};
 use crate::silent_disk::SilentDisk;
-use crate::sound_pool::{SoundPool, begin, imported};
+use crate::sound_pool::{SoundPool, created, imported};
 use ddt_entry::Entry;
 use disk_model::{Disk, MemDisk};
 use pool_model::{Closed, Mode};
@@ -23,8 +23,10 @@ fn new_pool(rt: &impl Abort, alloc: Global) -> Result<Filled, Fail> {
     let mut disk = SilentDisk {
         inner: MemDisk::new(alloc, 2048)?,
     };
-    begin(rt, &mut disk)?;
+    let made = created(rt, alloc, &mut disk)?;
+    assert_holds(rt, alloc, &made, 1, &[], &[])?;
     let pool = imported(rt, alloc, &mut disk)?;
+    assert_holds(rt, alloc, &pool, 1, &[], &[])?;
     Ok(Filled {
         disk,
         pool,

@@ -1,10 +1,8 @@
-use crate::{SealFault, create, seal_new_pool};
+use crate::{SealFault, seal_new_pool};
 use disk_model::{Disk, Failed, MemDisk};
-use pool_model::{Outcome, SyncFault};
-use std::alloc::Global;
 use std::process::Abort;
 use std::test::Fail;
-use table_state::{Pool, new_seal};
+use table_state::new_seal;
 use uber_ring::{Seal, close_slot, find, open_slot, write_body};
 
 /// The seal that counts.
@@ -168,57 +166,5 @@ fn a_fault_is_told_as_what_it_was(rt: HostRuntime) -> Result<(), Fail> {
             "call {failing} fails"
         );
     }
-    Ok(())
-}
-
-/// Creates a pool, where the disk has the size of one and no seal counts.
-fn created(rt: &impl Abort, alloc: Global, disk: &mut MemDisk) -> Result<Pool, SyncFault> {
-    assert!(rt; disk.sectors() >= 2048);
-    assert!(rt; disk.sectors() <= 1_000_000);
-    let Ok(found) = newest(disk) else {
-        return Err(SyncFault::ReadFault);
-    };
-    assert!(rt; found.is_none());
-    create(alloc, disk, 1)
-}
-
-#[test]
-fn a_group_that_needs_more_than_is_free_has_no_space(rt: HostRuntime) -> Result<(), Fail> {
-    // An empty pool has no pages, and 2,016 of its 2,048 sectors are free.
-    let mut disk = MemDisk::new(rt.alloc(), 2048)?;
-    let Ok(pool) = created(&rt, rt.alloc(), &mut disk) else {
-        return Err("the pool is created".into());
-    };
-    assert_eq!(rt; pool.group(), 1);
-    assert_eq!(rt; pool.pages(), 0);
-    assert_eq!(rt; pool.free(), 2016);
-    for (commands, writes, outcome) in [
-        (64u64, 64u64, None),
-        (
-            65,
-            65,
-            Some(Outcome::NoSpace {
-                need: 2027,
-                free: 2016,
-            }),
-        ),
-        (65, 54, None),
-        (
-            66,
-            54,
-            Some(Outcome::NoSpace {
-                need: 2028,
-                free: 2016,
-            }),
-        ),
-        (1, 0, None),
-    ] {
-        assert_eq!(rt;
-            pool.no_space(commands, writes),
-            outcome,
-            "{commands} commands, {writes} writes"
-        );
-    }
-    assert_eq!(rt; pool.need(1, 0), 398);
     Ok(())
 }
