@@ -96,7 +96,7 @@ fn settings_are(rt: &impl Abort, sound: &SoundPool, closed: &Closed) {
 }
 
 /// 200 homes of their own keys, at places from 200 on, made by this group.
-fn two_hundred(alloc: Global, group: u64) -> Result<Vec<Entry>, Fail> {
+pub(crate) fn two_hundred(alloc: Global, group: u64) -> Result<Vec<Entry>, Fail> {
     let mut homes = Vec::new(alloc);
     for at in 0..200u8 {
         homes.push(entry(at + 11, 200 + at as u64, group, 1))?;
@@ -105,7 +105,7 @@ fn two_hundred(alloc: Global, group: u64) -> Result<Vec<Entry>, Fail> {
 }
 
 /// A slot of lane 5 for each of these homes.
-fn slots_for(alloc: Global, homes: &[Entry]) -> Result<Vec<SlotRecord>, Fail> {
+pub(crate) fn slots_for(alloc: Global, homes: &[Entry]) -> Result<Vec<SlotRecord>, Fail> {
     let mut slots = Vec::new(alloc);
     let mut at = 0u32;
     for home in homes {

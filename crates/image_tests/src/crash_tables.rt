@@ -1,0 +1,137 @@
+use crate::crashes::{crashed, homes, slots, with_a_pointer};
+use crate::groups::{assert_holds, entry, group_of, slot};
+use crate::silent_disk::SilentDisk;
+use crate::sound_pool::{SoundPool, imported};
+use crate::syncs::{slots_for, two_hundred};
+use ddt_entry::Entry;
+use std::alloc::Global;
+use std::process::Abort;
+use std::test::Fail;
+use table_state::SlotRecord;
+
+/// A disk with a pool of one pointer, behind the sync of a group of these slots and entries, of which every call
+/// from this one on fails. A sync that nothing disturbs makes so many calls.
+fn cut_short(
+    rt: &impl Abort,
+    alloc: Global,
+    put: &[SlotRecord],
+    made: &[Entry],
+    calls: u64,
+    failing: u64,
+) -> Result<SilentDisk, Fail> {
+    let (mut disk, mut pool) = with_a_pointer(rt, alloc)?;
+    let closed = group_of(alloc, put, made)?;
+    let before = disk.inner.calls_made();
+    disk.inner.fail_from(before.saturating_add(failing));
+    let answer = pool.sync(rt, alloc, &mut disk, &closed);
+    assert_eq!(rt; answer.is_ok(), failing > calls, "call {failing} fails");
+    Ok(disk)
+}
+
+/// Sees that a pool is the one before the group.
+fn assert_is_before(rt: &impl Abort, alloc: Global, found: &SoundPool) -> Result<(), Fail> {
+    let [home, _, _] = homes();
+    let [held, _, _] = slots();
+    assert_holds(rt, alloc, found, 2, &[held], &[home])
+}
+
+/// Sees that a pool is the one after the group of these slots and entries.
+fn assert_is_after(
+    rt: &impl Abort,
+    alloc: Global,
+    found: &SoundPool,
+    put: &[SlotRecord],
+    made: &[Entry],
+) -> Result<(), Fail> {
+    let [home, _, _] = homes();
+    let [held, _, _] = slots();
+    let mut all_slots = Vec::new(alloc);
+    all_slots.push(held)?;
+    all_slots.extend_from_slice(put)?;
+    let mut all_homes = Vec::new(alloc);
+    all_homes.push(home)?;
+    all_homes.extend_from_slice(made)?;
+    let (put, made) = (all_slots.as_slice(), all_homes.as_slice());
+    assert_holds(rt, alloc, found, 3, put, made)
+}
+
+/// Whether the group is there after a crash by this choice, where every call from this one on fails: the last call is
+/// the gate's barrier, and only then has the choice a say that has all that was written.
+fn is_there(calls: u64, failing: u64, choice: u8) -> bool {
+    failing > calls || (failing == calls && choice == 1)
+}
+
+/// Sees what a crash by this choice leaves of a group of these slots and entries.
+fn assert_leaves(
+    rt: &impl Abort,
+    alloc: Global,
+    put: &[SlotRecord],
+    made: &[Entry],
+    calls: u64,
+    failing: u64,
+    choice: u8,
+) -> Result<(), Fail> {
+    let disk = cut_short(rt, alloc, put, made, calls, failing)?;
+    let mut left = crashed(rt, disk, choice)?;
+    let found = imported(rt, alloc, &mut left)?;
+    if is_there(calls, failing, choice) {
+        assert_is_after(rt, alloc, &found, put, made)
+    } else {
+        assert_is_before(rt, alloc, &found)
+    }
+}
+
+/// Crashes the sync of a group with each choice, where every call from this one on fails.
+fn crash_from(
+    rt: &impl Abort,
+    alloc: Global,
+    put: &[SlotRecord],
+    made: &[Entry],
+    calls: u64,
+    failing: u64,
+) -> Result<(), Fail> {
+    for choice in [0u8, 1, 2, 3] {
+        assert_leaves(rt, alloc, put, made, calls, failing, choice)?;
+    }
+    Ok(())
+}
+
+/// Does so from each call on.
+fn crash_at_each_call(
+    rt: &impl Abort,
+    alloc: Global,
+    put: &[SlotRecord],
+    made: &[Entry],
+    calls: u64,
+) -> Result<(), Fail> {
+    for failing in 1..calls.saturating_add(2) {
+        crash_from(rt, alloc, put, made, calls, failing)?;
+    }
+    Ok(())
+}
+
+#[test]
+fn a_small_group_is_whole_or_not_there(rt: HostRuntime) -> Result<(), Fail> {
+    // The meter, the closing's barrier, the blocks, a page of slots and one of the active log, the body, its barrier,
+    // the gate and its barrier.
+    let alloc = rt.alloc();
+    crash_at_each_call(&rt, alloc, &[], &[], 8)?;
+    let once = entry(2, 101, 3, 1);
+    crash_at_each_call(&rt, alloc, &[slot(3, 0, &once)], &[once], 9)?;
+    let twice = entry(2, 101, 3, 2);
+    let sharing = [slot(3, 65_535, &twice), slot(4, 0, &twice)];
+    crash_at_each_call(&rt, alloc, &sharing, &[twice], 9)
+}
+
+#[test]
+fn a_group_of_200_pointers_is_whole_or_not_there(rt: HostRuntime) -> Result<(), Fail> {
+    // Of its 214 calls the third to the 202nd write blocks, and the next eight write pages: 201 slots and 201 changes,
+    // 56 a page. Of either the first, one between and the last are tried; of the other calls each one.
+    let alloc = rt.alloc();
+    let homes = two_hundred(alloc, 3)?;
+    let slots = slots_for(alloc, homes.as_slice())?;
+    for failing in [1u64, 2, 3, 100, 202, 203, 206, 210, 211, 212, 213, 214, 215] {
+        crash_from(&rt, alloc, slots.as_slice(), homes.as_slice(), 214, failing)?;
+    }
+    Ok(())
+}
