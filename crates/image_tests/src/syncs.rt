@@ -57,36 +57,64 @@ fn put(
     homes: &[Entry],
     pages: u64,
 ) -> Result<SoundPool, Fail> {
-    let mut closed = group_of(alloc, slots, homes)?;
-    closed.quota = Some(group);
-    closed.modes[3] = if group % 2 == 0 {
-        Mode::Verify
-    } else {
-        Mode::Off
-    };
+    let closed = with_settings(alloc, group, slots, homes)?;
     filled.slots.extend_from_slice(slots)?;
     filled.homes.extend_from_slice(homes)?;
     let answer = filled.pool.sync(rt, alloc, &mut filled.disk, &closed);
     assert_eq!(rt; answer, Ok(group));
     let again = imported(rt, alloc, &mut filled.disk)?;
-    for sound in [&again, &filled.pool] {
-        assert_holds(
-            rt,
-            alloc,
-            sound,
-            group,
-            filled.slots.as_slice(),
-            filled.homes.as_slice(),
-        )?;
-        assert_eq!(rt; sound.pool.pages.len(), pages, "the pages of group {group}");
-    }
+    assert_put(rt, alloc, filled, &again, group, pages)?;
+    assert_put(rt, alloc, filled, &filled.pool, group, pages)?;
     settings_are(rt, &again, &closed);
+    blocks_are_there(rt, &mut filled.disk, homes)?;
+    Ok(again)
+}
+
+/// The group of these slots and entries, with settings that change from group to group.
+fn with_settings(
+    alloc: Global,
+    group: u64,
+    slots: &[SlotRecord],
+    homes: &[Entry],
+) -> Result<Closed, Fail> {
+    let mut closed = group_of(alloc, slots, homes)?;
+    closed.quota = Some(group);
+    closed.modes[3] = mode_of(group);
+    Ok(closed)
+}
+
+/// The mode that lane 3 gets in a group.
+fn mode_of(group: u64) -> Mode {
+    if group % 2 == 0 {
+        Mode::Verify
+    } else {
+        Mode::Off
+    }
+}
+
+/// Sees that a pool has a group's number, all that was put in so far, and so many pages.
+fn assert_put(
+    rt: &impl Abort,
+    alloc: Global,
+    filled: &Filled,
+    sound: &SoundPool,
+    group: u64,
+    pages: u64,
+) -> Result<(), Fail> {
+    let (slots, homes) = (filled.slots.as_slice(), filled.homes.as_slice());
+    assert_holds(rt, alloc, sound, group, slots, homes)?;
+    assert_eq!(rt; sound.pool.pages.len(), pages, "the pages of group {group}");
+    Ok(())
+}
+
+/// Sees that the blocks of these entries stand at their places.
+fn blocks_are_there(rt: &impl Abort, disk: &mut SilentDisk, homes: &[Entry]) -> Result<(), Fail> {
     for home in homes {
         let byte = home.key.digest[0];
-        let front = front_of(rt, &mut filled.disk, home.home.place)?;
+        let front = front_of(rt, disk, home.home.place)?;
         assert_eq!(rt; front, [byte, byte, byte, byte, byte, 0]);
     }
-    Ok(again)
+    Ok(())
 }
 
 /// Sees that a pool has the settings of a group.
