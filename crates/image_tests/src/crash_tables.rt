@@ -120,7 +120,10 @@ fn a_small_group_is_whole_or_not_there(rt: HostRuntime) -> Result<(), Fail> {
     crash_at_each_call(&rt, alloc, &[slot(3, 0, &once)], &[once], 9)?;
     let twice = entry(2, 101, 3, 2);
     let sharing = [slot(3, 65_535, &twice), slot(4, 0, &twice)];
-    crash_at_each_call(&rt, alloc, &sharing, &[twice], 9)
+    crash_at_each_call(&rt, alloc, &sharing, &[twice], 9)?;
+    let [_, home, other] = homes();
+    let [_, held, last] = slots();
+    crash_at_each_call(&rt, alloc, &[held, last], &[home, other], 10)
 }
 
 #[test]
