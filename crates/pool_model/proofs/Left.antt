@@ -72,14 +72,14 @@ other_notes = record {
   one_more = λ h. (let e = h.1 in cc);
   number = λ h. (let e : 3 ≡ 2 = h.0.number in omega arith);
   kind = λ h. (let e = h.0.kind in cc);
-  taken = λ h. (let e : 1 ≡ 0 = h.0.taken in omega arith);
-  cut = λ h. (let e = h.0.outcome in cc);
-  answer = λ h. (let e : new ∷ [] ≡ hit ∷ [] = h.0.answers.agrees.replies in cc);
-  second_answer = λ h. (let e : 2 ≡ 1 = h.0.answers.lanes.replies.0 in omega arith);
-  lane = λ h. (let e : 1 ∷ [] ≡ 0 ∷ [] = h.0.answers.lanes.lanes in cc);
-  idle_lane = λ h. (let e : 0 ∷ 1 ∷ [] ≡ 0 ∷ [] = h.0.answers.lanes.lanes in cc);
-  ring = λ h. (let e : 32 ≤ 31 = h.0.answers.fresh.free.0.unnamed.start in omega arith);
-  no_place = λ h. (let e : 32 ≤ 0 = h.0.answers.fresh.free.0.unnamed.start in omega arith);
-  second_place = λ h. (let e : 33 ∷ [] ≡ [] = h.0.answers.agrees.fresh.0 in cc);
-  fault = λ h. (let e : 1 ≤ 0 = h.0.answers.lanes.faults.0 in omega arith);
+  taken = λ h. (let e : 1 ≡ 0 = h.0.did.0 in omega arith);
+  cut = λ h. (let e = h.0.room_is.0 in cc);
+  answer = λ h. (let e : new ∷ [] ≡ hit ∷ [] = h.0.did.1.agrees.replies in cc);
+  second_answer = λ h. (let e : 2 ≡ 1 = h.0.did.1.lanes.replies.0 in omega arith);
+  lane = λ h. (let e : 1 ∷ [] ≡ 0 ∷ [] = h.0.did.1.lanes.lanes in cc);
+  idle_lane = λ h. (let e : 0 ∷ 1 ∷ [] ≡ 0 ∷ [] = h.0.did.1.lanes.lanes in cc);
+  ring = λ h. (let e : 32 ≤ 31 = h.0.room_is.1.free.0.unnamed.start in omega arith);
+  no_place = λ h. (let e : 32 ≤ 0 = h.0.room_is.1.free.0.unnamed.start in omega arith);
+  second_place = λ h. (let e : 33 ∷ [] ≡ [] = h.0.did.1.agrees.fresh.0 in cc);
+  fault = λ h. (let e : 1 ≤ 0 = h.0.did.1.lanes.faults.0 in omega arith);
 }

@@ -6,7 +6,7 @@ use Rattle.ddt_entry.specs.declared.key.Key.{Key}
 use Rattle.pool_model.specs.declared.notes.Kind.TheVariants.{Lanes}
 use Rattle.pool_model.specs.Plain.{lanes}
 use Rattle.pool_model.specs.Worked.{group_note}
-use Rattle.pool_model.specs.Run.{IsGroupNote, first_standing}
+use Rattle.pool_model.specs.Run.{always_sealed, IsGroupNote, first_standing}
 use Rattle.pool_model.specs.Pool.{lane_count}
 use Rattle.std.proofs.Common.{refl, rules}
 use Rattle.pool_model.proofs.OnLiterals.{pool_on_literals}
@@ -20,13 +20,12 @@ three_fresh : AreFresh (IsFree 2048 [] first_standing) ((32, 1) ∷ (33, 1) ∷ 
 three_fresh = search rules
 
 -- a group without commands has an empty note
-idle_noted : (key_of : List ℕ → Key) (s : Standing) (moment : ℕ) → IsGroupNote lane_by_lane (IsFree 2048 []) key_of s (lanes moment []) Lanes (group_note (s.pool.group + 1) [])
+idle_noted : (key_of : List ℕ → Key) (s : Standing) (moment : ℕ) → IsGroupNote lane_by_lane (always_sealed (IsFree 2048 [])) key_of s (lanes moment []) Lanes (group_note (s.pool.group + 1) [])
 idle_noted key_of s moment = record {
   number = refl;
   kind = refl;
-  outcome = refl;
-  taken = refl;
-  answers = record { lanes = record { lanes = refl; replies = tt; faults = tt }; agrees = record { replies = refl; fresh = used_up }; fresh = record { free = tt; apart = tt } };
+  room_is = (refl, record { free = tt; apart = tt });
+  did = (refl, record { lanes = record { lanes = refl; replies = tt; faults = tt }; agrees = record { replies = refl; fresh = used_up } });
 }
 
 pub waiting_home : WaitingHome
@@ -38,9 +37,9 @@ pub two_lanes : TwoLanes
 unfolding pool_on_literals
 two_lanes = record {
   run = (
-    record { number = refl; kind = refl; outcome = refl; taken = refl; answers = record { lanes = search rules; agrees = record { replies = refl; fresh = used_up }; fresh = three_fresh } },
+    record { number = refl; kind = refl; room_is = (refl, three_fresh); did = (refl, record { lanes = search rules; agrees = record { replies = refl; fresh = used_up } }) },
     (
-      record { number = refl; kind = refl; outcome = refl; taken = refl; answers = record { lanes = search rules; agrees = record { replies = refl; fresh = used_up }; fresh = record { free = tt; apart = tt } } },
+      record { number = refl; kind = refl; room_is = (refl, record { free = tt; apart = tt }); did = (refl, record { lanes = search rules; agrees = record { replies = refl; fresh = used_up } }) },
       (
         idle_noted _ _ _,
         (
@@ -58,7 +57,7 @@ two_lanes = record {
                     (
                       idle_noted _ _ _,
                       (
-                        record { number = refl; kind = refl; outcome = refl; taken = refl; answers = refl },
+                        record { number = refl; kind = refl; room_is = (refl, record { free = tt; apart = tt }); did = (refl, refl) },
                         refl,
                       ),
                     ),

@@ -1,5 +1,5 @@
 -- A whole group of lanes' commands: its turns in an order, the changes that it leaves to the table, and which places it may give out.
-use Rattle.std.specs.Prelude.{◌≡◌, ℕ, ◌+◌, ◌≤◌, Bool, ◌&&◌, ◌==◌, nat_lt, List, [], length, filter, map, fold, replicate, count_by, Option, Some, None, if◌then◌else◌, slice_set}
+use Rattle.std.specs.Prelude.{◌≡◌, ℕ, ◌+◌, ◌<◌, ◌≤◌, Bool, ◌&&◌, ◌==◌, nat_lt, List, [], length, filter, map, fold, replicate, count_by, Option, Some, None, if◌then◌else◌, slice_set}
 use Rattle.std.specs.List.{AllByRecursion, find, filter_map, flat_map, zip, range_with_len}
 use Rattle.std.specs.Option.{option_map}
 use Rattle.ddt_entry.specs.declared.key.Key.{Key}
@@ -8,6 +8,7 @@ use Rattle.ddt_entry.specs.declared.entry.Change.{Change}
 use Rattle.ddt_entry.specs.declared.entry.Change.TheVariants as changes
 use Rattle.pool_model.specs.Pool.{Pool, Pointer, Pairwise, IsApart, run_length, lane_count, with_key}
 use Rattle.pool_model.specs.Table.{TableState, found, sync_table, waiting_in}
+use Rattle.pool_model.specs.Space.{image_pages}
 use Rattle.pool_model.specs.Plain.{Task, LaneTold}
 use Rattle.pool_model.specs.Command.{Opening, Turn, Course, known_home, after, is_fault}
 
@@ -115,6 +116,13 @@ pub record IsFree (sectors : ℕ) (pages : List ℕ) (s : Standing) (place lengt
   pub unnamed : IsUnnamed s place length
   pub end : place + length ≤ sectors
   pub no_page : AllByRecursion (λ page. IsApart place length page 1) pages
+
+-- the sectors of an image's pages: as many as it takes, each of its own, in the pool, and none that something else names
+pub record ArePages (sectors : ℕ) (s : Standing) (pages : List ℕ) : Type 0 where
+  pub count : length pages ≡ image_pages s.pool s.table
+  pub apart : Pairwise (λ a b. IsApart a 1 b 1) pages
+  pub unnamed : AllByRecursion (λ page. IsUnnamed s page 1) pages
+  pub within : AllByRecursion (λ page. page < sectors) pages
 
 -- the runs were free, and no two share a sector
 pub record AreFresh (is_free : (place length : ℕ) → Type 0) (given : List (ℕ × ℕ)) : Type 0 where

@@ -1,4 +1,5 @@
 pub mod Clash
+pub mod Crash
 pub mod Command
 pub mod File
 pub mod Group

@@ -1,17 +1,17 @@
 -- A list of items: what stands after each, and when a session's notes are those of a run.
-use Rattle.std.specs.Prelude.{◌≡◌, ℕ, ◌+◌, List, [], ◌∷◌, length, Option, Some, None, slice_set}
+use Rattle.std.specs.Prelude.{◌≡◌, ℕ, ◌+◌, List, [], ◌∷◌, length, Option, Some, None, unwrap_or, slice_set}
 use Rattle.ddt_entry.specs.declared.key.Key.{Key}
 use Rattle.pool_model.specs.declared.notes.Kind.{Kind}
 use Rattle.pool_model.specs.declared.notes.Kind.TheVariants.{Lanes, Prune, Settings}
 use Rattle.pool_model.specs.declared.notes.Outcome.{Outcome}
 use Rattle.pool_model.specs.declared.notes.Outcome.TheVariants.{Sealed, NoSpace, Cut}
 use Rattle.pool_model.specs.Pool.{Pool, empty_pool}
-use Rattle.pool_model.specs.Table.{empty_table, sync_table}
+use Rattle.pool_model.specs.Table.{empty_table, sync_table, flush_limit}
 use Rattle.pool_model.specs.Plain.{Task, Part, create, lanes, prune, quota, set_mode, stat, «import», LaneTold, Told}
 use Rattle.pool_model.specs.Command.{Turn, Course}
 use Rattle.pool_model.specs.Prune.{after_prune, prune_changes, pruned}
-use Rattle.pool_model.specs.Space.{need}
-use Rattle.pool_model.specs.Group.{Standing, opening_of, course_of, fresh_of, after_lanes, HasEachLane, Agrees, AreFresh}
+use Rattle.pool_model.specs.Space.{need, free_count, space_lacking, changes_in, writes_in}
+use Rattle.pool_model.specs.Group.{Standing, opening_of, course_of, fresh_of, after_lanes, HasEachLane, Agrees, AreFresh, IsFree, ArePages}
 
 -- the empty pool of a new image
 abbrev pub first_standing : Standing
@@ -92,39 +92,96 @@ taken_in create pool = 0
 taken_in stat pool = 0
 taken_in «import» pool = 0
 
--- the note's replies and fresh places are those of the run, and its fresh places were free
-pub record AnswersAsRun (order : Order) (is_free : Standing → (place length : ℕ) → Type 0) (key_of : List ℕ → Key) (s : Standing) (moment : ℕ) (tasks : List Task) (told : Told) : Type 0 where
+-- how a group of this part may end where this stands, with these runs given out
+abbrev pub Room : Type 1
+Room = Standing → Part → Outcome → (given : List (ℕ × ℕ)) → Type 0
+
+-- each group is sealed, and each run that it gives out is free so
+abbrev pub always_sealed : (Standing → (place length : ℕ) → Type 0) → Room
+always_sealed is_free s part outcome given = (outcome ≡ Sealed) × AreFresh (is_free s) given
+
+-- the changes that a group may make, and its writes
+abbrev pub changes_of_part : Part → Pool → ℕ
+changes_of_part (lanes moment tasks) pool = changes_in tasks
+changes_of_part (prune moment rule) pool = length (pruned pool rule moment)
+changes_of_part (quota limit) pool = 0
+changes_of_part (set_mode lane mode) pool = 0
+changes_of_part create pool = 0
+changes_of_part stat pool = 0
+changes_of_part «import» pool = 0
+
+abbrev pub writes_of_part : Part → ℕ
+writes_of_part (lanes moment tasks) = writes_in tasks
+writes_of_part (prune moment rule) = 0
+writes_of_part (quota limit) = 0
+writes_of_part (set_mode lane mode) = 0
+writes_of_part create = 0
+writes_of_part stat = 0
+writes_of_part «import» = 0
+
+-- want of room where a group needs more sectors than are free, and otherwise it is sealed
+abbrev pub outcome_by_room : (sectors : ℕ) → (pages : List ℕ) → Standing → Part → Outcome
+outcome_by_room sectors pages s part =
+    unwrap_or (space_lacking (free_count sectors pages s.pool s.table) (need (length pages) (flush_limit s.table) (changes_of_part part s.pool) (writes_of_part part))) Sealed
+
+-- on a disk of so many sectors: the newest image has its pages somewhere, the group ends by its need and by what is free beside them, and each run that it gives out is free
+pub record RoomOn (sectors : ℕ) (s : Standing) (part : Part) (outcome : Outcome) (given : List (ℕ × ℕ)) : Type 0 where
+  pub pages : List ℕ
+  pub are_pages : ArePages sectors s pages
+  pub outcome_is : outcome ≡ outcome_by_room sectors pages s part
+  pub fresh : AreFresh (IsFree sectors pages s) given
+
+-- the runs that a group gives out
+abbrev pub given_by : Order → (List ℕ → Key) → Standing → Part → Told → List (ℕ × ℕ)
+given_by order key_of s (lanes moment tasks) told = (noted_course order key_of s moment tasks told).given
+given_by order key_of s (prune moment rule) told = []
+given_by order key_of s (quota limit) told = []
+given_by order key_of s (set_mode lane mode) told = []
+given_by order key_of s create told = []
+given_by order key_of s stat told = []
+given_by order key_of s «import» told = []
+
+-- the note's replies and fresh places are those of the run
+pub record AnswersAsRun (order : Order) (key_of : List ℕ → Key) (s : Standing) (moment : ℕ) (tasks : List Task) (told : Told) : Type 0 where
   pub lanes : HasEachLane tasks told.lanes
   pub agrees : Agrees (noted_course order key_of s moment tasks told) (order tasks told.lanes)
-  pub fresh : AreFresh (is_free s) (noted_course order key_of s moment tasks told).given
 
-abbrev pub AnswersPart : Order → (Standing → (place length : ℕ) → Type 0) → (List ℕ → Key) → Standing → Part → Told → Type 0
-AnswersPart order is_free key_of s (lanes moment tasks) told = AnswersAsRun order is_free key_of s moment tasks told
-AnswersPart order is_free key_of s (prune moment rule) told = told.lanes ≡ []
-AnswersPart order is_free key_of s (quota limit) told = told.lanes ≡ []
-AnswersPart order is_free key_of s (set_mode lane mode) told = told.lanes ≡ []
-AnswersPart order is_free key_of s create told = ⊥
-AnswersPart order is_free key_of s stat told = ⊥
-AnswersPart order is_free key_of s «import» told = ⊥
+abbrev pub AnswersPart : Order → (List ℕ → Key) → Standing → Part → Told → Type 0
+AnswersPart order key_of s (lanes moment tasks) told = AnswersAsRun order key_of s moment tasks told
+AnswersPart order key_of s (prune moment rule) told = told.lanes ≡ []
+AnswersPart order key_of s (quota limit) told = told.lanes ≡ []
+AnswersPart order key_of s (set_mode lane mode) told = told.lanes ≡ []
+AnswersPart order key_of s create told = ⊥
+AnswersPart order key_of s stat told = ⊥
+AnswersPart order key_of s «import» told = ⊥
+
+-- what a group did: its run where it was sealed, and nothing where it had no room; one that was cut hasn't ended
+abbrev pub DidPart : Outcome → Order → (List ℕ → Key) → Standing → Part → Told → Type 0
+DidPart Sealed order key_of s part told = (told.taken ≡ taken_in part s.pool) × AnswersPart order key_of s part told
+DidPart (NoSpace need free) order key_of s part told = (told.taken ≡ 0) × (told.lanes ≡ [])
+DidPart Cut order key_of s part told = ⊥
 
 -- a group's note says what a run of the group from here does
-pub record IsGroupNote (order : Order) (is_free : Standing → (place length : ℕ) → Type 0) (key_of : List ℕ → Key) (s : Standing) (part : Part) (part_kind : Kind) (told : Told) : Type 0 where
+pub record IsGroupNote (order : Order) (room : Room) (key_of : List ℕ → Key) (s : Standing) (part : Part) (part_kind : Kind) (told : Told) : Type 0 where
   pub number : told.number ≡ s.pool.group + 1
   pub kind : told.kind ≡ part_kind
-  pub outcome : told.outcome ≡ Sealed
-  pub taken : told.taken ≡ taken_in part s.pool
-  pub answers : AnswersPart order is_free key_of s part told
+  pub room_is : room s part told.outcome (given_by order key_of s part told)
+  pub did : DidPart told.outcome order key_of s part told
+
+-- what stands after a group by its note
+abbrev pub noted_standing : Order → (List ℕ → Key) → Standing → Part → Told → Standing
+noted_standing order key_of s part told = standing_by told.outcome s (sealed_standing order key_of s part told)
 
 -- the notes are those of a run of the items from here: one for each group, in order, and no other
-abbrev pub NotesGroup : (List Told → Standing → Type 0) → Order → (Standing → (place length : ℕ) → Type 0) → (List ℕ → Key) → Standing → Part → Kind → List Told → Type 0
-NotesGroup go_on order is_free key_of s part kind [] = ⊥
-NotesGroup go_on order is_free key_of s part kind (told ∷ notes) =
-    IsGroupNote order is_free key_of s part kind told × go_on notes (sealed_standing order key_of s part told)
+abbrev pub NotesGroup : (List Told → Standing → Type 0) → Order → Room → (List ℕ → Key) → Standing → Part → Kind → List Told → Type 0
+NotesGroup go_on order room key_of s part kind [] = ⊥
+NotesGroup go_on order room key_of s part kind (told ∷ notes) =
+    IsGroupNote order room key_of s part kind told × go_on notes (noted_standing order key_of s part told)
 
-abbrev pub NotesItem : (List Told → Standing → Type 0) → Order → (Standing → (place length : ℕ) → Type 0) → (List ℕ → Key) → Standing → Part → Option Kind → List Told → Type 0
-NotesItem go_on order is_free key_of s part None notes = go_on notes s
-NotesItem go_on order is_free key_of s part (Some kind) notes = NotesGroup go_on order is_free key_of s part kind notes
+abbrev pub NotesItem : (List Told → Standing → Type 0) → Order → Room → (List ℕ → Key) → Standing → Part → Option Kind → List Told → Type 0
+NotesItem go_on order room key_of s part None notes = go_on notes s
+NotesItem go_on order room key_of s part (Some kind) notes = NotesGroup go_on order room key_of s part kind notes
 
-abbrev pub NotesRun : Order → (Standing → (place length : ℕ) → Type 0) → (List ℕ → Key) → List Part → List Told → Standing → Type 0
-NotesRun order is_free key_of [] notes s = notes ≡ []
-NotesRun order is_free key_of (part ∷ parts) notes s = NotesItem (NotesRun order is_free key_of parts) order is_free key_of s part (kind_of part) notes
+abbrev pub NotesRun : Order → Room → (List ℕ → Key) → List Part → List Told → Standing → Type 0
+NotesRun order room key_of [] notes s = notes ≡ []
+NotesRun order room key_of (part ∷ parts) notes s = NotesItem (NotesRun order room key_of parts) order room key_of s part (kind_of part) notes

@@ -1,5 +1,5 @@
 -- How much room a group needs, and how much there is.
-use Rattle.std.specs.Prelude.{ℕ, ◌+◌, ◌*◌, Bool, true, false, not, ◌&&◌, ◌||◌, ◌==◌, nat_le, nat_lt, List, map, count_by, Option, Some, None, if◌then◌else◌}
+use Rattle.std.specs.Prelude.{ℕ, ◌+◌, ◌*◌, ◌/◌, Bool, true, false, not, ◌&&◌, ◌||◌, ◌==◌, nat_le, nat_lt, List, length, map, count_by, Option, Some, None, if◌then◌else◌}
 use Rattle.std.specs.List.{list_any, range_with_len}
 use Rattle.pool_model.specs.declared.notes.Outcome.{Outcome}
 use Rattle.pool_model.specs.declared.notes.Outcome.TheVariants.{NoSpace}
@@ -57,3 +57,16 @@ free_count sectors pages pool table = count_by not (used_sectors sectors pages p
 -- the outcome of a group that needs so many sectors where so many are free; nothing where they are enough
 abbrev pub space_lacking : (left needed : ℕ) → Option Outcome
 space_lacking left needed = if nat_lt left needed then Some (NoSpace needed left) else None
+
+-- how many pages a chain of so many records takes
+abbrev pub chain_pages : (records : ℕ) → ℕ
+chain_pages records = (records + 55) / 56
+
+-- how many pages the image of a pool takes: for its slots, for both classes of the stored table, and for both logs
+abbrev pub image_pages : Pool → TableState → ℕ
+image_pages pool table =
+    chain_pages (length pool.pointers)
+    + chain_pages (count_by (λ entry. entry.home.count == 1) table.zap)
+    + chain_pages (count_by (λ entry. nat_lt 1 entry.home.count) table.zap)
+    + chain_pages (length table.active)
+    + chain_pages (length table.flush)

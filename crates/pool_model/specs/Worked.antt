@@ -8,7 +8,7 @@ use Rattle.pool_model.specs.declared.notes.Kind.TheVariants.{Lanes, Prune, Setti
 use Rattle.pool_model.specs.declared.notes.Outcome.TheVariants.{Sealed}
 use Rattle.pool_model.specs.Plain.{Act, Task, Part, Reply, to_write, to_free, to_read, bytes, LaneTold, Told}
 use Rattle.pool_model.specs.Group.{Standing, IsFree, lane_by_lane}
-use Rattle.pool_model.specs.Run.{NotesRun, ended_items, first_standing}
+use Rattle.pool_model.specs.Run.{always_sealed, NotesRun, ended_items, first_standing}
 use Rattle.pool_model.specs.Text.{report}
 use Rattle.pool_model.specs.File.{file_of}
 
@@ -53,7 +53,7 @@ settings_note number = record { number = number; kind = Settings; outcome = Seal
 
 -- from here the notes are those of a run of the items on 2,048 sectors, and this is its report
 pub record IsWorked (key_of : List ℕ → Key) (s : Standing) (parts : List Part) (notes : List Told) (text : List ℕ) : Type 0 where
-  pub run : NotesRun lane_by_lane (IsFree 2048 []) key_of parts notes s
+  pub run : NotesRun lane_by_lane (always_sealed (IsFree 2048 [])) key_of parts notes s
   pub printed : report (ended_items lane_by_lane key_of parts notes s) ≡ text
 
 -- the same on a new pool with keys by SHA-256

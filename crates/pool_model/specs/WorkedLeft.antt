@@ -15,13 +15,13 @@ use Rattle.pool_model.specs.Table.{TableState, empty_table}
 use Rattle.pool_model.specs.Plain.{Act, write, read, free, Part, Reply, lanes, prune, quota, set_mode, to_write, to_free, to_read, nothing, Told}
 use Rattle.pool_model.specs.Group.{Standing, IsFree, AreFresh, lane_by_lane}
 use Rattle.pool_model.specs.Space.{used_sectors, free_count}
-use Rattle.pool_model.specs.Run.{NotesRun, ended_items, first_standing, last_standing, noted_course}
+use Rattle.pool_model.specs.Run.{always_sealed, NotesRun, ended_items, first_standing, last_standing, noted_course}
 use Rattle.pool_model.specs.Worked.{a, b, c, task, new, hit, counted, lane_note, group_note, prune_note, settings_note}
 use Rattle.pool_model.specs.WorkedTurns.{own_key}
 
 -- from here the notes are those of a run of the items, which leaves these pointers and this table
 pub record Leaves (key_of : List ℕ → Key) (s : Standing) (parts : List Part) (notes : List Told) (pointers : List Pointer) (table : TableState) : Type 0 where
-  pub run : NotesRun lane_by_lane (IsFree 2048 []) key_of parts notes s
+  pub run : NotesRun lane_by_lane (always_sealed (IsFree 2048 [])) key_of parts notes s
   pub pointers_left : (last_standing s (ended_items lane_by_lane key_of parts notes s)).pool.pointers ≡ pointers
   pub table_left : (last_standing s (ended_items lane_by_lane key_of parts notes s)).table ≡ table
 
@@ -200,7 +200,7 @@ pub record FreePlaces : Type 0 where
 
 -- whether these are notes of a run of one write
 abbrev pub AreNotes : List Told → Type 0
-AreNotes notes = NotesRun lane_by_lane (IsFree 2048 []) own_key (commands 1000 ((1, write a) ∷ []) ∷ []) notes first_standing
+AreNotes notes = NotesRun lane_by_lane (always_sealed (IsFree 2048 [])) own_key (commands 1000 ((1, write a) ∷ []) ∷ []) notes first_standing
 
 -- notes that tell something else than a run are none of its notes
 pub record OtherNotes : Type 0 where
