@@ -8,7 +8,6 @@ use Rattle.ddt_entry.specs.declared.entry.Change.{Change}
 use Rattle.ddt_entry.specs.declared.entry.Change.TheVariants as changes
 use Rattle.pool_model.specs.Pool.{Pool, Pointer, Pairwise, IsApart, run_length, lane_count, with_key}
 use Rattle.pool_model.specs.Table.{TableState, found, sync_table, waiting_in}
-use Rattle.pool_model.specs.Space.{image_pages}
 use Rattle.pool_model.specs.Plain.{Task, LaneTold}
 use Rattle.pool_model.specs.Command.{Opening, Turn, Course, known_home, after, is_fault}
 
@@ -117,9 +116,9 @@ pub record IsFree (sectors : ℕ) (pages : List ℕ) (s : Standing) (place lengt
   pub end : place + length ≤ sectors
   pub no_page : AllByRecursion (λ page. IsApart place length page 1) pages
 
--- the sectors of an image's pages: as many as it takes, each of its own, in the pool, and none that something else names
-pub record ArePages (sectors : ℕ) (s : Standing) (pages : List ℕ) : Type 0 where
-  pub count : length pages ≡ image_pages s.pool s.table
+-- the sectors of an image's pages: so many, each of its own, in the pool, and none that something else names
+pub record ArePages (sectors count : ℕ) (s : Standing) (pages : List ℕ) : Type 0 where
+  pub count_is : length pages ≡ count
   pub apart : Pairwise (λ a b. IsApart a 1 b 1) pages
   pub unnamed : AllByRecursion (λ page. IsUnnamed s page 1) pages
   pub within : AllByRecursion (λ page. page < sectors) pages

@@ -1,5 +1,5 @@
 -- A list of items: what stands after each, and when a session's notes are those of a run.
-use Rattle.std.specs.Prelude.{◌≡◌, ℕ, ◌+◌, List, [], ◌∷◌, length, Option, Some, None, unwrap_or, slice_set}
+use Rattle.std.specs.Prelude.{◌≡◌, ℕ, ◌+◌, List, [], ◌∷◌, length, Option, Some, None, unwrap_or, slice_set, ◌==◌, if◌then◌else◌}
 use Rattle.ddt_entry.specs.declared.key.Key.{Key}
 use Rattle.pool_model.specs.declared.notes.Kind.{Kind}
 use Rattle.pool_model.specs.declared.notes.Kind.TheVariants.{Lanes, Prune, Settings}
@@ -10,7 +10,7 @@ use Rattle.pool_model.specs.Table.{empty_table, sync_table, flush_limit}
 use Rattle.pool_model.specs.Plain.{Task, Part, create, lanes, prune, quota, set_mode, stat, «import», LaneTold, Told}
 use Rattle.pool_model.specs.Command.{Turn, Course}
 use Rattle.pool_model.specs.Prune.{after_prune, prune_changes, pruned}
-use Rattle.pool_model.specs.Space.{need, free_count, space_lacking, changes_in, writes_in}
+use Rattle.pool_model.specs.Space.{need, free_count, space_lacking, changes_in, writes_in, image_pages}
 use Rattle.pool_model.specs.Group.{Standing, opening_of, course_of, fresh_of, after_lanes, HasEachLane, Agrees, AreFresh, IsFree, ArePages}
 
 -- the empty pool of a new image
@@ -124,10 +124,14 @@ abbrev pub outcome_by_room : (sectors : ℕ) → (pages : List ℕ) → Standing
 outcome_by_room sectors pages s part =
     unwrap_or (space_lacking (free_count sectors pages s.pool s.table) (need (length pages) (flush_limit s.table) (changes_of_part part s.pool) (writes_of_part part))) Sealed
 
--- on a disk of so many sectors: the newest image has its pages somewhere, the group ends by its need and by what is free beside them, and each run that it gives out is free
-pub record RoomOn (sectors : ℕ) (s : Standing) (part : Part) (outcome : Outcome) (given : List (ℕ × ℕ)) : Type 0 where
+-- how many pages the newest image has: as many as the image of this group had, where no group was sealed since, and else as many as the pool takes
+abbrev pub pages_since : (group pages : ℕ) → Standing → ℕ
+pages_since group pages s = if s.pool.group == group then pages else image_pages s.pool s.table
+
+-- on a disk of so many sectors: the newest image has so many pages somewhere, the group ends by its need and by what is free beside them, and each run that it gives out is free
+pub record RoomOn (sectors : ℕ) (pages_of : Standing → ℕ) (s : Standing) (part : Part) (outcome : Outcome) (given : List (ℕ × ℕ)) : Type 0 where
   pub pages : List ℕ
-  pub are_pages : ArePages sectors s pages
+  pub are_pages : ArePages sectors (pages_of s) s pages
   pub outcome_is : outcome ≡ outcome_by_room sectors pages s part
   pub fresh : AreFresh (IsFree sectors pages s) given
 

@@ -84,7 +84,7 @@ module _ (key_of : List ℕ → Key) (moment : ℕ) (tasks : List Task) (replies
 pub answers_as_run : (key_of : List ℕ → Key) (moment : ℕ) (tasks : List Task) (pool : Pool) (replies : List Reply) (given : List ℕ) (told : Told)
     → AllByRecursion IsFirstWrite tasks → 0 < length tasks → length replies ≡ length tasks
     → HasWritten key_of moment pool (turns_of tasks (lane_of replies given)) given → told.lanes ≡ lane_of replies given ∷ []
-    → AnswersAsRun lane_by_lane IsUnnamed key_of first_standing moment tasks told × ((noted_course lane_by_lane key_of first_standing moment tasks told).pool ≡ pool)
+    → AnswersAsRun lane_by_lane key_of first_standing moment tasks told × AreFresh (IsUnnamed first_standing) (noted_course lane_by_lane key_of first_standing moment tasks told).given × ((noted_course lane_by_lane key_of first_standing moment tasks told).pool ≡ pool)
 answers_as_run key_of moment tasks pool replies given told all some long has told_is =
     let whole : tasks_of 0 tasks ≡ tasks = tasks_of-first tasks all in
     let course : Course = course_of (first_opening key_of moment) empty_pool (given ∷ replicate 15 []) (turns_of tasks (lane_of replies given)) in
@@ -100,8 +100,8 @@ answers_as_run key_of moment tasks pool replies given told all some long has tol
       record {
         lanes = subst (HasEachLane tasks) (sym told_is) lanes;
         agrees = subst (λ c. Agrees c (lane_by_lane tasks told.lanes)) (sym course_is) (subst (Agrees course) (sym order_is) agrees);
-        fresh = subst (λ c. AreFresh (IsUnnamed first_standing) c.given) (sym course_is) fresh;
       },
+      subst (λ c. AreFresh (IsUnnamed first_standing) c.given) (sym course_is) fresh,
       ap (λ c. c.pool) course_is ∙ stands,
     )
 
@@ -113,4 +113,4 @@ first_run key_of moment tasks pool replies given all some long has =
     let whole : tasks_of 0 tasks ≡ tasks = tasks_of-first tasks all in
     let told : Told = first_note replies given in
     let run = answers_as_run key_of moment tasks pool replies given told all some long (rw whole has) refl in
-    (record { number = refl; kind = refl; outcome = refl; taken = refl; answers = run.0 }, ap (λ (p : Pool). record p { group = 2 }) run.1, (refl, tt))
+    (record { number = refl; kind = refl; room_is = (refl, run.1); did = (refl, run.0) }, ap (λ (p : Pool). record p { group = 2 }) run.2, (refl, tt))

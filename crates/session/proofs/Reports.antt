@@ -15,7 +15,7 @@ use Rattle.pool_model.specs.Plain.{Task, Part, lanes, stat, Told, told_of}
 use Rattle.pool_model.specs.Stats.{stats_of}
 use Rattle.pool_model.specs.Text.{report, group_text, stat_text}
 use Rattle.pool_model.specs.Group.{Standing, lane_by_lane, IsUnnamed}
-use Rattle.pool_model.specs.Run.{Ended, ended_items, last_standing, NotesRun, first_standing}
+use Rattle.pool_model.specs.Run.{always_sealed, Ended, ended_items, last_standing, NotesRun, first_standing}
 use Rattle.session.specs.Writing.{IsFirstForm}
 use Rattle.session.specs.declared.status.Status.{Status}
 use Rattle.session.specs.declared.status.Status.TheVariants.{Done, Usage, BadFile, SourceFault, SinkFault, OutOfMemory}
@@ -61,7 +61,7 @@ module _ (key_of : List ℕ → Key) (moment : ℕ) (tasks : List Task) where
   by_note note pool stats pool_is stats_are = two_texts moment tasks note (last_standing first_standing (ended (note ∷ []))) pool stats pool_is stats_are
 
   -- the notes of a run are one
-  by_notes : (told : List Told) (pool : Pool) (stats : Stats) → NotesRun lane_by_lane IsUnnamed key_of two_parts told first_standing
+  by_notes : (told : List Told) (pool : Pool) (stats : Stats) → NotesRun lane_by_lane (always_sealed IsUnnamed) key_of two_parts told first_standing
       → pool ≡ (last_standing first_standing (ended told)).pool → stats ≡ stats_of pool → (note : Told) × (told ≡ note ∷ []) × (first_report two_parts (Some note) pool stats ≡ report (ended told))
   unfolding two_parts
   by_notes [] pool stats notes pool_is stats_are = absurd notes
@@ -71,7 +71,7 @@ module _ (key_of : List ℕ → Key) (moment : ℕ) (tasks : List Task) where
 
 -- the items of a group and a `stat` that ended are reported so
 pub reported_by : (key_of : List ℕ → Key) (parts : List Part) (told : List Told) (pool : Pool) (stats : Stats) → IsFirstForm parts
-    → NotesRun lane_by_lane IsUnnamed key_of parts told first_standing → pool ≡ (last_standing first_standing (ended_items lane_by_lane key_of parts told first_standing)).pool → stats ≡ stats_of pool
+    → NotesRun lane_by_lane (always_sealed IsUnnamed) key_of parts told first_standing → pool ≡ (last_standing first_standing (ended_items lane_by_lane key_of parts told first_standing)).pool → stats ≡ stats_of pool
     → (note : Told) × (told ≡ note ∷ []) × (first_report parts (Some note) pool stats ≡ report (ended_items lane_by_lane key_of parts told first_standing))
 unfolding ended two_parts
 reported_by key_of parts told pool stats first notes pool_is stats_are =

@@ -11,7 +11,7 @@ use Rattle.pool_model.specs.Pool.{Pool}
 use Rattle.pool_model.specs.Stats.{stats_of}
 use Rattle.pool_model.specs.Plain.{Part, Told, told_of}
 use Rattle.pool_model.specs.Group.{lane_by_lane, IsUnnamed}
-use Rattle.pool_model.specs.Run.{Ended, ended_items, last_standing, NotesRun, first_standing}
+use Rattle.pool_model.specs.Run.{always_sealed, Ended, ended_items, last_standing, NotesRun, first_standing}
 use Rattle.pool_model.specs.Text.{report}
 use Rattle.pool_model.specs.File.{file_of}
 use Rattle.report.specs.ItemText.{text_of}
@@ -37,7 +37,7 @@ IsFaultless told = AllByRecursion (λ lane. lane.faults ≡ 0) told.lanes
 
 -- a session that ran these items: its notes are those of a run, and its group is the last pool's
 pub record HasRun (key_of : List ℕ → Key) (parts : List Part) (session : Session) : Type 0 where
-  pub notes : NotesRun lane_by_lane IsUnnamed key_of parts (told_in session) first_standing
+  pub notes : NotesRun lane_by_lane (always_sealed IsUnnamed) key_of parts (told_in session) first_standing
   pub faultless : AllByRecursion IsFaultless (told_in session)
   pub sealed : session.sealed ≡ (last_standing first_standing (ended_in key_of parts session)).pool.group
 

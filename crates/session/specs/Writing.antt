@@ -11,7 +11,7 @@ use Rattle.pool_model.specs.Pool.{Pool, Pointer, tracked, lane_count, since_of, 
 use Rattle.pool_model.specs.Plain.{Act, write, read, free, Task, Part, lanes, stat, Reply, to_write, Told}
 use Rattle.pool_model.specs.Command.{Opening, Turn, Course, pointer_at, last_tracked, is_fault}
 use Rattle.pool_model.specs.Group.{opening_of, course_of, lane_by_lane, IsUnnamed}
-use Rattle.pool_model.specs.Run.{first_standing, IsGroupNote, sealed_standing}
+use Rattle.pool_model.specs.Run.{always_sealed, first_standing, IsGroupNote, sealed_standing}
 
 -- a block of 1 to 4,096 bytes is written
 abbrev pub WritesBlock : Act → Type 0
@@ -94,7 +94,7 @@ turns_from tasks replies = map (λ (pair : Task × Reply). record { task = pair.
 -- a group over the empty pool by this note, after which this pool stands
 abbrev pub IsFirstRun : (List ℕ → Key) → (moment : ℕ) → List Task → Told → Pool → Type 0
 IsFirstRun key_of moment tasks told pool =
-    IsGroupNote lane_by_lane IsUnnamed key_of first_standing (lanes moment tasks) Lanes told
+    IsGroupNote lane_by_lane (always_sealed IsUnnamed) key_of first_standing (lanes moment tasks) Lanes told
     × ((sealed_standing lane_by_lane key_of first_standing (lanes moment tasks) told).pool ≡ pool)
     × AllByRecursion (λ lane. lane.faults ≡ 0) told.lanes
 
