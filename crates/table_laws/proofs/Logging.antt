@@ -1,6 +1,5 @@
 -- What is found once a group's changes are logged: a change's home, or else what was found before.
-use Rattle.std.proofs.Common.{◌≡◌, Bool, true, false, cond, not, List, Option, Some, None, refl, sym, ap, ◌∙◌}
-use Rattle.std.specs.List.{AllByRecursion}
+use Rattle.std.proofs.Common.{◌≡◌, Bool, true, false, cond, not, List, Option, Some, None, refl, ap, ◌∙◌}
 use Rattle.std.specs.Ordering.{is_lt}
 use Rattle.std.proofs.lemmas.Bool.{not-true}
 use Rattle.ddt_entry.specs.Keys.{key_cmp, key_eq}
@@ -9,7 +8,7 @@ use Rattle.ddt_entry.specs.declared.key.Key.{Key}
 use Rattle.ddt_entry.specs.declared.entry.Home.{Home}
 use Rattle.ddt_entry.specs.declared.entry.Change.{Change}
 use Rattle.ddt_entry.proofs.KeyLaws.{key_eq-symm}
-use Rattle.pool_model.specs.Table.{TableState, home_in, entry_at, change_at, found_over, found, set_change, drop_change, log_change, logged}
+use Rattle.pool_model.specs.Table.{TableState, home_in, entry_at, change_at, found_over, found, set_change, log_change, logged}
 use Rattle.table_state.specs.Flat.{is_past}
 use Rattle.table_state.specs.Tables.{IsTable, AreChangesRising}
 use Rattle.table_state.proofs.Lists.{all_each, all_filter, all_passed, pairs_filter, fold_keeps}

@@ -1,7 +1,8 @@
 -- The home that each key has, as a function: by a group's changes, what a sync may make of it, and when it matches a pool.
-use Rattle.std.specs.Prelude.{◌≡◌, ℕ, ◌⊎◌, false, List, Option, Some, None}
-use Rattle.std.specs.List.{AllByRecursion}
+use Rattle.std.specs.Prelude.{◌≡◌, ◌⊎◌, Bool, false, List, Option, Some, None}
+use Rattle.std.specs.List.{AllByRecursion, list_any}
 use Rattle.ddt_entry.specs.Keys.{key_eq}
+use Rattle.ddt_entry.specs.Changes.{key_in}
 use Rattle.ddt_entry.specs.declared.key.Key.{Key}
 use Rattle.ddt_entry.specs.declared.entry.Home.{Home}
 use Rattle.ddt_entry.specs.declared.entry.Change.{Change}
@@ -22,3 +23,10 @@ pub record HomesMatch (pool : Pool) (home_at : Key → Option Home) : Type 0 whe
   pub waiting : (key : Key) (home : Home) → home_at key ≡ Some home → home.count ≡ 0 → AllByRecursion (IsApartFrom (record { key = key; home = home })) pool.pointers
   pub apart : (key other : Key) (home second : Home) → key_eq key other ≡ false → home_at key ≡ Some home → home.count ≡ 0 → home_at other ≡ Some second → second.count ≡ 0
       → IsApart home.place (run_length key) second.place (run_length other)
+
+abbrev pub is_among : Key → List Key → Bool
+is_among key keys = list_any (λ k. key_eq k key) keys
+
+-- each change that a key is given is of that key
+abbrev pub GivesOwnChanges : (Key → Option Change) → Type 0
+GivesOwnChanges change_of = (key : Key) (change : Change) → change_of key ≡ Some change → key_in change ≡ key
