@@ -24,6 +24,7 @@ pub record HomesMatch (pool : Pool) (home_at : Key → Option Home) : Type 0 whe
   pub apart : (key other : Key) (home second : Home) → key_eq key other ≡ false → home_at key ≡ Some home → home.count ≡ 0 → home_at other ≡ Some second → second.count ≡ 0
       → IsApart home.place (run_length key) second.place (run_length other)
 
+-- whether a key is one of these
 abbrev pub is_among : Key → List Key → Bool
 is_among key keys = list_any (λ k. key_eq k key) keys
 

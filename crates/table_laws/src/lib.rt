@@ -7,8 +7,8 @@
 //! only that a home at which no pointer is counted may be gone. So a table matches a pool after a sync where
 //! the homes with the group's changes do (`HomesMatch` of `specs/Homes.antt`).
 //!
-//! The functions do nothing: whoever needs a law calls its function, or cites the lemma behind it. The layers
-//! that run a group and seal it rely on them.
+//! The functions do nothing: whoever needs a law calls its function, or cites the lemma behind it. The laws
+//! are for the layers that run a group and seal it.
 #![tactic(auto)]
 
 ghost use Rattle.std.specs.Prelude.{◌≡◌, List, [], Option, Some, None, fold, if◌then◌else◌};
