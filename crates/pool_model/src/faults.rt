@@ -1,5 +1,6 @@
 ghost use Rattle.std.specs.Prelude.{◌≡◌};
 ghost use Rattle.pool_model.specs.declared.faults.SyncFault.TheVariants.{Memory as OutOfMemory};
+ghost use Rattle.pool_model.specs.declared.faults.GroupFault.TheVariants.{Memory as GroupOutOfMemory};
 
 use std::alloc::AllocError;
 
@@ -21,5 +22,28 @@ impl From<AllocError> for SyncFault {
 
     fn from(_: AllocError) -> Self {
         SyncFault::Memory
+    }
+}
+
+/// Why a group wasn't run. After each of these no lane of it is noted.
+#[derive(Clone, Copy, Debug, PartialEq, Eq)]
+pub enum GroupFault {
+    /// The group needs so many sectors where so many are free; it did nothing.
+    NoSpace { need: u64, free: u64 },
+    /// A read of the opening failed.
+    ReadFault,
+    /// The disk gave no meter.
+    WriteFault,
+    /// What was read at this sector while the group opened is not what has to stand there.
+    Damaged(u64),
+    /// There was no memory.
+    Memory,
+}
+
+impl From<AllocError> for GroupFault {
+    ghost from_gives = { λ _ told. told ≡ GroupOutOfMemory };
+
+    fn from(_: AllocError) -> Self {
+        GroupFault::Memory
     }
 }

@@ -30,7 +30,7 @@ pub use commands::{
     Block, Command, CommandFile, CommandList, Item, ItemList, LanesGroup, Mode, Payload, PruneRule,
     Verb,
 };
-pub use faults::SyncFault;
+pub use faults::{GroupFault, SyncFault};
 pub use notes::{
     BadKind, GroupNote, GroupNotes, Kind, LaneNote, LaneNotes, Outcome, PlaceList, Session,
 };
