@@ -1,0 +1,6 @@
+mod Homes
+mod Joining
+mod Keeping
+mod Pointers
+mod Rows
+mod Settling
