@@ -81,3 +81,7 @@ zero_uncounted home zero = grind (arith, nat_tests, zero)
 pub left_by-none : (before : Option Home) (last : Option Pointer) → left_by before last ≡ None → before ≡ None
 left_by-none before None none = none
 left_by-none before (Some p) none = absurd (cc none)
+
+pub home_now-none : (left : Option Home) (ps : List Pointer) → home_now left ps ≡ None → left ≡ None
+home_now-none left [] none = none
+home_now-none left (p ∷ ps) none = absurd (cc none)

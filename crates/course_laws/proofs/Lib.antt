@@ -1,6 +1,9 @@
+mod Courses
 mod Homes
 mod Joining
 mod Keeping
 mod Pointers
 mod Rows
 mod Settling
+mod Steps
+mod Writing
