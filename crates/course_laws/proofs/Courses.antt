@@ -1,20 +1,17 @@
 -- What a whole course keeps, from the opening on, turn by turn.
-use Rattle.std.proofs.Common.{◌≡◌, ℕ, ◌+◌, ◌≤◌, Bool, true, false, cond, ◌&&◌, ◌||◌, ◌==◌, nat_lt, List, [], ◌∷◌, ◌++◌, length, filter, fold, Option, Some, None, inl, inr, refl, sym, ap, subst, ◌∙◌, arith}
-use Rattle.std.specs.Prelude.{◌⊎◌}
-use Rattle.std.specs.List.{AllByRecursion, find, list_any}
+use Rattle.std.proofs.Common.{◌≡◌, ℕ, ◌+◌, ◌≤◌, Bool, true, false, nat_lt, List, [], ◌∷◌, ◌++◌, length, filter, Option, None, refl, sym, ap, subst, ◌∙◌, arith}
+use Rattle.std.specs.List.{AllByRecursion}
 use Rattle.ddt_entry.specs.declared.key.Key.{Key}
 use Rattle.ddt_entry.specs.declared.entry.Home.{Home}
-use Rattle.ddt_entry.specs.Keys.{key_eq}
-use Rattle.pool_model.specs.Pool.{Pool, Pointer, Mark, plain, tracked, loose, Pairwise, IsApart, SharesHome, LiesWithin, IsWellFormed, run_length, since_of, is_tracked, is_shared, is_at, tracks, tracked_at, insert_pointer}
+use Rattle.pool_model.specs.Pool.{Pool, Pointer, IsApart, LiesWithin, IsWellFormed, run_length, since_of, is_shared, tracks, insert_pointer}
 use Rattle.pool_model.specs.Table.{counted, home_of_pointers, found}
-use Rattle.pool_model.specs.Command.{Opening, Turn, Course, last_tracked, after}
-use Rattle.pool_model.specs.Group.{opened, course_of}
-use Rattle.course_laws.specs.ByKey.{MatchesByKey, IsUnnamedByKey, AreFreshByKey, is_touched, IsWrite}
+use Rattle.pool_model.specs.Command.{Opening, Course, last_tracked}
+use Rattle.course_laws.specs.ByKey.{MatchesByKey, IsUnnamedByKey, AreFreshByKey, is_touched}
 use Rattle.course_laws.proofs.Pointers.{all_from, none_insert, filter_insert}
 use Rattle.course_laws.proofs.Homes.{left_by, left_after, home_now, left_by-later, home_now-later, left_now, first_now, none_now, uncounted_zero}
-use Rattle.course_laws.proofs.Keeping.{Waits, IsUngiven, IsOpen, HomeWithin, IsKept, CanJoin, put_kept}
+use Rattle.course_laws.proofs.Keeping.{Waits, IsUngiven, IsKept, CanJoin, put_kept}
 use Rattle.course_laws.proofs.Joining.{given_longer, fresh_joins, plain_alone, first_alone, waiting_joins, shared_joins}
-use Rattle.course_laws.proofs.Steps.{left_of, home_of, IsPut, IsAlone, uncounted, unshared, IsAtHome, Step, stood, put_fresh, put_home, written_step}
+use Rattle.course_laws.proofs.Steps.{left_of, home_of, IsPut, IsAlone, uncounted, unshared, IsAtHome, Step, stood, put_fresh, put_home}
 
 -- of runs of which none shares a sector with another, the last one doesn't, nor do the others
 fresh_last : (unnamed : (place length : ℕ) → Type 0) (given : List (ℕ × ℕ)) (place length : ℕ) → AreFreshByKey unnamed (given ++ (place, length) ∷ []) → AreFreshByKey unnamed given × unnamed place length × IsUngiven given place length
@@ -49,8 +46,8 @@ module _ (sectors : ℕ) (unnamed : (place length : ℕ) → Type 0) (inside : (
   put_at course later p more runs longer is kept joins =
       same_kept more later.given (insert_pointer p course.pool.pointers) later.pool.pointers (course.pool ∷ course.earlier) later.earlier runs is.pool is.earlier
       (put_kept p course.pool.pointers (left_of opening course) (λ key. left_by (found opening.table key) (last_tracked key (course.pool ∷ course.earlier)))
-          (λ key. left_by-later (found opening.table key) (last_tracked key course.earlier) (filter (tracks key) course.pool.pointers))
-          sectors opening.number unnamed course.given more longer kept joins)
+      (λ key. left_by-later (found opening.table key) (last_tracked key course.earlier) (filter (tracks key) course.pool.pointers))
+      sectors opening.number unnamed course.given more longer kept joins)
 
   fresh_step : (course later : Course) (p : Pointer) → IsPut course later p → later.given ≡ course.given ++ (p.place, run_length p.key) ∷ [] → p.birth ≡ opening.number → IsAlone (home_of opening course p.key) p
       → AreFreshByKey unnamed later.given → KeptAt course → KeptAt later
@@ -129,21 +126,21 @@ writing_step opening course later (put_home p home is runs at) writing = put_wri
 pub kept_opened : (sectors : ℕ) (opening : Opening) (pool : Pool) (fresh : List (List ℕ)) → opening.number ≡ pool.group + 1 → IsWellFormed sectors pool → MatchesByKey sectors pool (found opening.table)
     → IsKept sectors opening.number (IsUnnamedByKey sectors pool (found opening.table)) [] pool.pointers (found opening.table)
 kept_opened sectors opening pool fresh number formed matched = record {
-    pairs = formed.together;
-    within = all_from (LiesWithin sectors pool.group) (LiesWithin sectors opening.number) (λ p lies. record { start = lies.start; end = lies.end; birth = omega (arith, lies.birth, number) }) pool.pointers formed.within;
-    uncounted = none_counted;
-    homes_within = λ key home waits. let zero = zero_of key home waits in record {
-      start = matched.start key home waits.left_is zero;
-      end = matched.end key home waits.left_is zero;
-      birth = omega (arith, matched.births key home waits.left_is zero, number);
-    };
-    waiting = λ key home waits. matched.waiting key home waits.left_is (zero_of key home waits);
-    apart = λ key other home second differ waits waits_too. matched.apart key other home second differ waits.left_is (zero_of key home waits) waits_too.left_is (zero_of other second waits_too);
-    opens = λ place length is ungiven. record {
-      pointers = is.no_pointer;
-      homes = λ key home waits. is.not_waiting key home waits.left_is (zero_of key home waits);
-    };
-  }
+  pairs = formed.together;
+  within = all_from (LiesWithin sectors pool.group) (LiesWithin sectors opening.number) (λ p lies. record { start = lies.start; end = lies.end; birth = omega (arith, lies.birth, number) }) pool.pointers formed.within;
+  uncounted = none_counted;
+  homes_within = λ key home waits. let zero = zero_of key home waits in record {
+    start = matched.start key home waits.left_is zero;
+    end = matched.end key home waits.left_is zero;
+    birth = omega (arith, matched.births key home waits.left_is zero, number);
+  };
+  waiting = λ key home waits. matched.waiting key home waits.left_is (zero_of key home waits);
+  apart = λ key other home second differ waits waits_too. matched.apart key other home second differ waits.left_is (zero_of key home waits) waits_too.left_is (zero_of other second waits_too);
+  opens = λ place length is ungiven. record {
+    pointers = is.no_pointer;
+    homes = λ key home waits. is.not_waiting key home waits.left_is (zero_of key home waits);
+  };
+}
   where
     none_counted : (key : Key) → filter (tracks key) pool.pointers ≡ [] → counted (found opening.table key) ≡ None
     none_counted key none = matched.homes key ∙ ap home_of_pointers none

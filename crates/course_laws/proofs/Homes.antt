@@ -1,13 +1,12 @@
 -- Homes of a key: by the pointers that are counted, by those of earlier pools, or by the table; and what a group leaves of them.
-use Rattle.std.proofs.Common.{◌≡◌, ℕ, ◌+◌, Bool, true, false, cond, ◌&&◌, ◌==◌, nat_lt, List, [], ◌∷◌, length, Option, Some, None, refl, sym, ap, ◌∙◌, arith}
+use Rattle.std.proofs.Common.{◌≡◌, true, false, cond, nat_lt, List, [], ◌∷◌, length, Option, Some, None, refl, sym, ap, ◌∙◌, arith}
 use Rattle.std.specs.Option.{option_map}
 use Rattle.std.proofs.lemmas.Bool.Decides.{nat_tests}
 use Rattle.ddt_entry.specs.declared.key.Key.{Key}
 use Rattle.ddt_entry.specs.declared.entry.Home.{Home}
 use Rattle.pool_model.specs.Pool.{Pointer, since_of}
-use Rattle.pool_model.specs.Table.{counted, found_over, home_of_pointers}
+use Rattle.pool_model.specs.Table.{counted, home_of_pointers}
 use Rattle.pool_model.specs.Command.{Opening, home_at, or_in, known_or, known_in_table}
-use Rattle.pool_model.specs.Group.{emptied, settled, home_eq, change_from}
 
 -- the home that is left of a key while no pointer is counted: of the last pointer that was, or the one of the table
 abbrev pub left_by : (before : Option Home) → (last : Option Pointer) → Option Home

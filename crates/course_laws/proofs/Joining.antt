@@ -1,16 +1,14 @@
 -- The pointers that can be put into a slot: at a fresh place, at a home that is counted, and at one that waits.
-use Rattle.std.proofs.Common.{◌≡◌, ℕ, ◌+◌, ◌≤◌, Bool, true, false, cond, ◌&&◌, List, [], ◌∷◌, ◌++◌, length, filter, Option, Some, None, inl, inr, refl, sym, ap, subst, ◌∙◌, arith}
-use Rattle.std.specs.Prelude.{◌⊎◌}
+use Rattle.std.proofs.Common.{◌≡◌, ℕ, ◌+◌, ◌≤◌, true, false, cond, ◌&&◌, List, [], ◌∷◌, ◌++◌, length, filter, Option, None, refl, sym, ap, subst, ◌∙◌}
 use Rattle.std.specs.List.{AllByRecursion, find}
 use Rattle.ddt_entry.specs.declared.key.Key.{Key}
 use Rattle.ddt_entry.specs.declared.entry.Home.{Home}
 use Rattle.ddt_entry.specs.Keys.{key_eq}
 use Rattle.ddt_entry.proofs.KeyLaws.{key_eq-true, key_eq-same}
-use Rattle.pool_model.specs.Pool.{Pool, Pointer, Mark, plain, tracked, loose, Pairwise, IsApart, GoTogether, SharesHome, LiesWithin, run_length, since_of, is_tracked, is_shared, is_at, tracks, insert_pointer}
-use Rattle.pool_model.specs.Table.{counted, IsApartFrom}
-use Rattle.course_laws.proofs.Pointers.{all_from, all_from_both, all_fail, all_unfound, first_has, apart_turned, shared_tracks, tracks-key, shares_turned, is_shared-symm}
-use Rattle.course_laws.proofs.Homes.{left_after, home_now, first_now}
-use Rattle.course_laws.proofs.Keeping.{Waits, IsUngiven, IsOpen, HomeWithin, IsKept, CanJoin}
+use Rattle.pool_model.specs.Pool.{Pointer, Pairwise, IsApart, GoTogether, SharesHome, LiesWithin, run_length, is_tracked, is_shared, is_at, tracks}
+use Rattle.pool_model.specs.Table.{IsApartFrom}
+use Rattle.course_laws.proofs.Pointers.{all_from, all_from_both, all_fail, all_unfound, first_has, apart_turned, shared_tracks, tracks-key, is_shared-symm}
+use Rattle.course_laws.proofs.Keeping.{Waits, IsUngiven, IsKept, CanJoin}
 
 -- the last run that was given out
 last_given : (given : List (ℕ × ℕ)) (place length a n : ℕ) → IsUngiven (given ++ (place, length) ∷ []) a n → IsUngiven given a n × IsApart place length a n
@@ -39,7 +37,7 @@ fresh_joins sectors number unnamed given ps left p inside kept empty alone born 
     let opens = kept.opens p.place (run_length p.key) is ungiven in
     let ends = inside p.place (run_length p.key) is in
     let slots_alone : AllByRecursion (λ q. (is_at p.lane p.slot q ≡ false) × (is_shared p q ≡ false)) ps =
-        all_from_both (λ q. is_at p.lane p.slot q ≡ false) (λ q. is_shared p q ≡ false) (λ q. (is_at p.lane p.slot q ≡ false) × (is_shared p q ≡ false)) (λ q a b. (a, b)) ps (all_unfound (is_at p.lane p.slot) ps empty) alone in
+    all_from_both (λ q. is_at p.lane p.slot q ≡ false) (λ q. is_shared p q ≡ false) (λ q. (is_at p.lane p.slot q ≡ false) × (is_shared p q ≡ false)) (λ q a b. (a, b)) ps (all_unfound (is_at p.lane p.slot) ps empty) alone in
     record {
       together = all_from_both (λ q. (is_at p.lane p.slot q ≡ false) × (is_shared p q ≡ false)) (λ q. IsApart p.place (run_length p.key) q.place (run_length q.key)) (GoTogether p)
           (λ q both apart. alone_together p q both.0 both.1 apart) ps slots_alone opens.pointers;
@@ -65,7 +63,7 @@ pub waiting_joins : (sectors number : ℕ) (unnamed : (place length : ℕ) → T
 waiting_joins sectors number unnamed given ps left p home kept empty counts place birth waits =
     let inside = kept.homes_within p.key home waits in
     let slots_alone : AllByRecursion (λ q. (is_at p.lane p.slot q ≡ false) × (is_shared p q ≡ false)) ps =
-        all_from_both (λ q. is_at p.lane p.slot q ≡ false) (λ q. is_shared p q ≡ false) (λ q. (is_at p.lane p.slot q ≡ false) × (is_shared p q ≡ false)) (λ q a b. (a, b)) ps (all_unfound (is_at p.lane p.slot) ps empty) (first_alone p ps counts waits.none) in
+    all_from_both (λ q. is_at p.lane p.slot q ≡ false) (λ q. is_shared p q ≡ false) (λ q. (is_at p.lane p.slot q ≡ false) × (is_shared p q ≡ false)) (λ q a b. (a, b)) ps (all_unfound (is_at p.lane p.slot) ps empty) (first_alone p ps counts waits.none) in
     record {
       together = all_from_both (λ q. (is_at p.lane p.slot q ≡ false) × (is_shared p q ≡ false)) (IsApartFrom (record { key = p.key; home = home })) (GoTogether p)
           (λ q both apart. alone_together p q both.0 both.1 (rw place apart)) ps slots_alone (kept.waiting p.key home waits);

@@ -1,14 +1,13 @@
 -- What every turn of a course keeps, of any pointers, homes and runs: and that it is kept when a pointer is put into a slot.
-use Rattle.std.proofs.Common.{◌≡◌, ℕ, ◌+◌, ◌≤◌, Bool, true, false, cond, List, [], ◌∷◌, length, filter, Option, Some, None, inl, inr, refl, sym, ap, subst, ◌∙◌, arith}
-use Rattle.std.specs.Prelude.{◌⊎◌}
-use Rattle.std.specs.List.{AllByRecursion, find}
+use Rattle.std.proofs.Common.{◌≡◌, ℕ, ◌+◌, ◌≤◌, false, List, [], length, filter, Option, Some, None, sym, ap, ◌∙◌}
+use Rattle.std.specs.List.{AllByRecursion}
 use Rattle.ddt_entry.specs.declared.key.Key.{Key}
 use Rattle.ddt_entry.specs.declared.entry.Home.{Home}
 use Rattle.ddt_entry.specs.Keys.{key_eq}
-use Rattle.pool_model.specs.Pool.{Pool, Pointer, Mark, plain, tracked, loose, Pairwise, IsApart, GoTogether, SharesHome, LiesWithin, run_length, since_of, is_tracked, is_shared, is_at, tracks, insert_pointer}
+use Rattle.pool_model.specs.Pool.{Pointer, Pairwise, IsApart, GoTogether, LiesWithin, run_length, tracks, insert_pointer}
 use Rattle.pool_model.specs.Table.{counted, IsApartFrom}
-use Rattle.course_laws.proofs.Pointers.{all_from, all_insert, pairs_insert, none_insert, filter_insert, together_turned, apart_turned}
-use Rattle.course_laws.proofs.Homes.{left_after, home_now}
+use Rattle.course_laws.proofs.Pointers.{all_insert, pairs_insert, none_insert, together_turned}
+use Rattle.course_laws.proofs.Homes.{left_after}
 
 -- a home that waits: no pointer of its key is counted, and it is left
 pub record Waits (ps : List Pointer) (left : Key → Option Home) (key : Key) (home : Home) : Type 0 where

@@ -1,3 +1,4 @@
+mod Counts
 mod Courses
 mod Homes
 mod Joining

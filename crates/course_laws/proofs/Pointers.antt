@@ -1,11 +1,11 @@
 -- Lists of pointers: what an insertion in order keeps, and what a filter tells of the elements.
-use Rattle.std.proofs.Common.{◌≡◌, ℕ, ◌+◌, ◌≤◌, Bool, true, false, cond, not, ◌&&◌, ◌==◌, List, [], ◌∷◌, length, filter, Option, Some, None, inl, inr, refl, sym, ap, subst, ◌∙◌, arith}
+use Rattle.std.proofs.Common.{◌≡◌, ℕ, Bool, true, false, cond, ◌&&◌, ◌==◌, List, [], ◌∷◌, filter, Some, None, inl, inr, refl, sym, ap, subst, ◌∙◌, arith}
 use Rattle.std.specs.List.{AllByRecursion, find}
 use Rattle.std.proofs.lemmas.Bool.Decides.{nat_tests}
 use Rattle.ddt_entry.specs.declared.key.Key.{Key}
 use Rattle.ddt_entry.specs.Keys.{key_eq}
-use Rattle.ddt_entry.proofs.KeyLaws.{key_eq-symm, key_eq-true, key_eq-same}
-use Rattle.pool_model.specs.Pool.{Pool, Pointer, Mark, plain, tracked, loose, Pairwise, IsApart, GoTogether, SharesHome, run_length, since_of, is_tracked, is_shared, is_at, tracks, comes_before, insert_pointer}
+use Rattle.ddt_entry.proofs.KeyLaws.{key_eq-symm, key_eq-true}
+use Rattle.pool_model.specs.Pool.{Pointer, Pairwise, IsApart, GoTogether, SharesHome, run_length, is_tracked, is_shared, tracks, comes_before, insert_pointer}
 
 -- what holds of each holds of each in another sense
 pub all_from : {X : Type 0} (P Q : X → Type 0) → ((x : X) → P x → Q x) → (xs : List X) → AllByRecursion P xs → AllByRecursion Q xs

@@ -1,6 +1,5 @@
 -- Where a write may put its pointer, by the home that its key has.
-use Rattle.std.proofs.Common.{◌≡◌, ℕ, ◌+◌, Bool, true, false, cond, not, nat_lt, nat_le, List, [], ◌∷◌, length, Option, Some, None, inl, inr, refl, sym, ap, ◌∙◌, arith}
-use Rattle.std.specs.Prelude.{◌⊎◌}
+use Rattle.std.proofs.Common.{◌≡◌, ℕ, Bool, true, false, cond, not, nat_lt, List, Option, Some, None, refl, ap}
 use Rattle.std.specs.Option.{option_map}
 use Rattle.std.specs.Str.{bytes_eq}
 use Rattle.ddt_entry.specs.declared.key.Key.{Key}
@@ -9,9 +8,9 @@ use Rattle.ddt_entry.specs.Keys.{key_eq}
 use Rattle.pool_model.specs.declared.commands.Mode.{Mode}
 use Rattle.pool_model.specs.declared.commands.Mode.TheVariants.{Off, On, Verify}
 use Rattle.pool_model.specs.declared.answers.WriteAnswer.TheVariants as written
-use Rattle.pool_model.specs.Pool.{Pointer, Mark, plain, tracked, loose, is_tracked}
+use Rattle.pool_model.specs.Pool.{Mark, plain, tracked, is_tracked}
 use Rattle.pool_model.specs.Table.{counted}
-use Rattle.pool_model.specs.Command.{Opening, Known, Spot, nowhere, at_home, at_fresh, Row, row, new_row, home_row, table_row, verify_row, mode_row, uses_table}
+use Rattle.pool_model.specs.Command.{Opening, Known, Spot, nowhere, at_home, at_fresh, row, new_row, home_row, table_row, verify_row, mode_row, uses_table}
 
 -- a spot that suits the home of the key: by a lane that uses the table or not
 pub record FitsHome (now : Option Home) (uses : Bool) (home : Home) (mark : Mark) : Type 0 where

@@ -1,5 +1,5 @@
 -- What a group's change makes of the home that the table found.
-use Rattle.std.proofs.Common.{◌≡◌, ℕ, ◌+◌, Bool, true, false, cond, ◌&&◌, ◌==◌, nat_lt, List, [], ◌∷◌, length, Option, Some, None, inl, inr, refl, sym, ap, ◌∙◌, arith}
+use Rattle.std.proofs.Common.{◌≡◌, ℕ, true, false, cond, ◌&&◌, ◌==◌, nat_lt, Option, Some, None, inl, inr, refl, sym, ap, ◌∙◌, arith}
 use Rattle.std.specs.Prelude.{◌⊎◌}
 use Rattle.std.proofs.lemmas.Bool.Decides.{nat_tests}
 use Rattle.ddt_entry.specs.declared.key.Key.{Key}
@@ -56,11 +56,12 @@ counted_emptied (Some home) = refl
 pub counted_settled : (number : ℕ) (before now : Option Home) → (now ≡ None → before ≡ None) → counted (settled number before now) ≡ counted now
 counted_settled number before None gone = ap counted (gone refl)
 counted_settled number before (Some home) gone =
-    elim ((home.count == 0) && (home.birth == number)) as (λ b. (((home.count == 0) && (home.birth == number)) ≡ b) → counted (cond b (emptied before) (Some home)) ≡ counted (Some home))
-    [ true ↦ λ both. let zero : home.count ≡ 0 = (count_zero home.count home.birth number both).0 in
-        let uncounted : nat_lt 0 home.count ≡ false = grind (arith, nat_tests, zero) in
-        counted_emptied before ∙ sym (ap (λ b. cond b (Some home) None) uncounted)
-      | false ↦ λ other. refl ] refl
+    elim ((home.count == 0) && (home.birth == number)) as (λ b. (((home.count == 0) && (home.birth == number)) ≡ b) → counted (cond b (emptied before) (Some home)) ≡ counted (Some home)) [
+      | true ↦ λ both. let zero : home.count ≡ 0 = (count_zero home.count home.birth number both).0 in
+          let uncounted : nat_lt 0 home.count ≡ false = grind (arith, nat_tests, zero) in
+          counted_emptied before ∙ sym (ap (λ b. cond b (Some home) None) uncounted)
+      | false ↦ λ other. refl
+    ] refl
 
 -- a home that isn't counted in the end is one that wasn't counted, or the table's where the group had made it and lost it again
 pub settled_uncounted : (number : ℕ) (before now : Option Home) (home : Home) → (now ≡ None → before ≡ None) → settled number before now ≡ Some home → home.count ≡ 0

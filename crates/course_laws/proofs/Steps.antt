@@ -1,20 +1,18 @@
 -- A turn of a course as a step: nothing happens to the pool, or a pointer is put at a fresh place or at its key's home.
-use Rattle.std.proofs.Common.{◌≡◌, ℕ, ◌+◌, ◌≤◌, Bool, true, false, cond, ◌&&◌, ◌||◌, ◌==◌, nat_lt, List, [], ◌∷◌, ◌++◌, length, filter, Option, Some, None, inl, inr, refl, sym, ap, subst, ◌∙◌, arith}
-use Rattle.std.specs.Prelude.{◌⊎◌}
-use Rattle.std.specs.List.{AllByRecursion, find, list_any}
+use Rattle.std.proofs.Common.{◌≡◌, ℕ, Bool, true, false, ◌&&◌, ◌||◌, nat_lt, List, [], ◌∷◌, ◌++◌, length, filter, Option, Some, None, refl, ap, subst, ◌∙◌}
+use Rattle.std.specs.List.{find, list_any}
 use Rattle.std.specs.Option.{option_map}
 use Rattle.ddt_entry.specs.declared.key.Key.{Key}
 use Rattle.ddt_entry.specs.declared.entry.Home.{Home}
 use Rattle.ddt_entry.specs.Keys.{key_eq}
 use Rattle.pool_model.specs.declared.answers.WriteAnswer.{WriteAnswer}
-use Rattle.pool_model.specs.declared.answers.WriteAnswer.TheVariants as written
-use Rattle.pool_model.specs.Pool.{Pool, Pointer, Mark, plain, tracked, loose, Pairwise, IsApart, run_length, since_of, is_tracked, is_at, tracks, tracked_at, held, mode_of, keys_in, insert_pointer}
-use Rattle.pool_model.specs.Plain.{Act, write, read, free, Task, Reply, to_write}
+use Rattle.pool_model.specs.Pool.{Pointer, tracked, run_length, is_tracked, is_at, tracks, held, mode_of, keys_in, insert_pointer}
+use Rattle.pool_model.specs.Plain.{Act, write, read, free, Task, to_write}
 use Rattle.pool_model.specs.Table.{counted, found}
-use Rattle.pool_model.specs.Command.{Opening, Turn, Course, Known, Spot, nowhere, at_home, at_fresh, Row, row, known_home, last_tracked, slot_row, mode_row, uses_table, is_fault, allows, pointer_at, next_fresh, placed, naming, replied, after_write, after_act, after}
+use Rattle.pool_model.specs.Command.{Opening, Turn, Course, Spot, nowhere, at_home, at_fresh, Row, known_home, last_tracked, slot_row, mode_row, uses_table, is_fault, allows, pointer_at, next_fresh, placed, naming, replied, after_write, after_act, after}
 use Rattle.course_laws.specs.ByKey.{is_touched, IsWrite}
 use Rattle.course_laws.proofs.Homes.{left_by, home_now, known_home-now}
-use Rattle.course_laws.proofs.Rows.{SpotFits, FitsHome, FitsFresh, outside, first, row_fits}
+use Rattle.course_laws.proofs.Rows.{SpotFits, FitsFresh, outside, first, row_fits}
 
 -- the home that a course has left of a key, and the key's home
 abbrev pub left_of : Opening → Course → Key → Option Home

@@ -1,18 +1,17 @@
 -- A group of writes alone: it leaves a pool that is well formed, and homes that count its pointers.
-use Rattle.std.proofs.Common.{◌≡◌, ℕ, ◌+◌, ◌≤◌, Bool, true, false, cond, nat_lt, List, [], ◌∷◌, ◌++◌, length, filter, fold, Option, Some, None, inl, inr, refl, sym, ap, subst, ◌∙◌, arith}
-use Rattle.std.specs.List.{AllByRecursion, find, list_any}
+use Rattle.std.proofs.Common.{◌≡◌, ℕ, ◌+◌, ◌≤◌, Bool, true, false, cond, nat_lt, List, [], ◌∷◌, filter, fold, Option, Some, None, inl, inr, refl, sym, ap, ◌∙◌}
+use Rattle.std.specs.List.{AllByRecursion}
 use Rattle.ddt_entry.specs.declared.key.Key.{Key}
 use Rattle.ddt_entry.specs.declared.entry.Home.{Home}
-use Rattle.ddt_entry.specs.declared.entry.Change.{Change}
-use Rattle.pool_model.specs.Pool.{Pool, Pointer, IsWellFormed, tracks, LiesWithin}
-use Rattle.pool_model.specs.Table.{counted, home_of_pointers, found, change_at, found_over}
+use Rattle.pool_model.specs.Pool.{Pool, Pointer, IsWellFormed, tracks}
+use Rattle.pool_model.specs.Table.{counted, home_of_pointers, found, found_over}
 use Rattle.pool_model.specs.Command.{Opening, Turn, Course, after}
-use Rattle.pool_model.specs.Group.{settled, change_from, changes_of, opened, course_of}
+use Rattle.pool_model.specs.Group.{settled, change_from, opened, course_of}
 use Rattle.course_laws.specs.ByKey.{MatchesByKey, IsUnnamedByKey, AreFreshByKey, ChangesByKey, is_touched, home_after, IsWrite}
 use Rattle.course_laws.proofs.Homes.{home_now, counted_now, left_now, zero_uncounted, left_by-none, home_now-none}
-use Rattle.course_laws.proofs.Keeping.{Waits, HomeWithin, IsKept}
+use Rattle.course_laws.proofs.Keeping.{Waits, IsKept}
 use Rattle.course_laws.proofs.Settling.{over_settled, settled-same, counted_settled, settled_uncounted}
-use Rattle.course_laws.proofs.Steps.{left_of, home_of, home_of-known, Step, written_step}
+use Rattle.course_laws.proofs.Steps.{left_of, home_of, home_of-known, written_step}
 use Rattle.course_laws.proofs.Courses.{IsTouching, IsWriting, kept_step, given_step, touching_step, writing_step, kept_opened}
 
 -- the home of a key after the group's changes is the one that is settled
@@ -112,7 +111,7 @@ module _ (sectors : ℕ) (unnamed : (place length : ℕ) → Type 0) (opening : 
       → Waits course.pool.pointers (left_of opening course) key home × (found opening.table key ≡ Some home)
   written_waits key home after_is zero =
       let waits = still_waits opening.number (found opening.table key) (left_of opening course key) (filter (tracks key) course.pool.pointers) home (gone_of opening course key) (is.writing key)
-          (sym (after_settled opening course is.touching changes key) ∙ after_is) zero in
+      (sym (after_settled opening course is.touching changes key) ∙ after_is) zero in
       (record { none = waits.0; left_is = waits.1 }, waits.2)
 
   pub written_matches : MatchesByKey sectors (record course.pool { group = opening.number }) (λ key. home_after opening course (found opening.table key) key)
@@ -124,3 +123,8 @@ module _ (sectors : ℕ) (unnamed : (place length : ℕ) → Type 0) (opening : 
     start = λ key home home_is zero. (is.kept.homes_within key home (written_waits key home home_is zero).0).start;
     end = λ key home home_is zero. (is.kept.homes_within key home (written_waits key home home_is zero).0).end;
   }
+
+-- the pool that it leaves is well formed
+pub kept_formed : (sectors : ℕ) (unnamed : (place length : ℕ) → Type 0) (opening : Opening) (course : Course) → IsKept sectors opening.number unnamed course.given course.pool.pointers (left_of opening course)
+    → IsWellFormed sectors (record course.pool { group = opening.number })
+kept_formed sectors unnamed opening course kept = record { together = kept.pairs; within = kept.within }

@@ -4,10 +4,9 @@ use Rattle.std.specs.List.{AllByRecursion, list_any}
 use Rattle.ddt_entry.specs.Keys.{key_eq}
 use Rattle.ddt_entry.specs.declared.key.Key.{Key}
 use Rattle.ddt_entry.specs.declared.entry.Home.{Home}
-use Rattle.ddt_entry.specs.declared.entry.Change.{Change}
 use Rattle.pool_model.specs.Pool.{Pool, Pairwise, IsApart, run_length, tracked_at}
 use Rattle.pool_model.specs.Table.{counted, home_of_pointers, IsApartFrom, change_at, found_over}
-use Rattle.pool_model.specs.Command.{Opening, Turn, Course}
+use Rattle.pool_model.specs.Command.{Opening, Course}
 use Rattle.pool_model.specs.Group.{change_of, changes_of}
 use Rattle.pool_model.specs.Plain.{Act, write, read, free}
 

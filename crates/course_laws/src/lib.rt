@@ -1,14 +1,16 @@
 //! What the definition of a group's course comes to, as laws.
+//!
+//! A group of lanes' commands is a course of turns: each is made of the pool, the table and the fresh
+//! places that stood before it. The laws say what such a course keeps. Its pool stays well formed, and
+//! the homes that the table finds after the group's changes count exactly its pointers, with waiting
+//! homes whose blocks are no one else's; so a group that is run again finds what it needs. They speak of the homes
+//! key by key, as `specs/ByKey.antt` says it.
+//!
+//! The proofs go turn by turn: a turn is a step that puts a pointer at a fresh place or at its key's
+//! home, or takes one out, and one record of facts is kept by each step. Whoever seals groups or runs
+//! them relies on these laws; the functions do nothing.
 #![tactic(auto)]
 
-ghost use Rattle.std.specs.Prelude.{◌≡◌, ℕ, ◌+◌, ◌≤◌, List, length};
-ghost use Rattle.ddt_entry.specs.declared.key.Key.{Key};
-ghost use Rattle.pool_model.specs.Pool.{Pool};
-ghost use Rattle.pool_model.specs.Command.{Opening, Turn};
-ghost use Rattle.pool_model.specs.Group.{changes_of, course_of};
-ghost use Rattle.course_laws.specs.ByKey.{MatchesByKey};
+mod laws;
 
-/// A course gives out at most one run a turn.
-pub fn a_turn_gives_one_run_at_most()
-    ensures { (opening : Opening) (pool : Pool) (fresh : List (List ℕ)) (turns : List Turn) → length (course_of opening pool fresh turns).given ≤ length turns }
-{}
+pub use laws::{a_group_grows_by_its_turns, writes_begin_no_waiting, writes_keep_a_pool_together};

@@ -1,0 +1,16 @@
+use Rattle.std.proofs.Common.{refl}
+use Rattle.pool_model.specs.Table.{found}
+use Rattle.pool_model.specs.Group.{opening_of, course_of}
+use Rattle.course_laws.specs.ByKey.{IsUnnamedByKey}
+use Rattle.course_laws.proofs.Writing.{written_all, written_matches, kept_formed}
+use Rattle.course_laws.proofs.laws.writes_keep_a_pool_together.Goals as goal
+
+pub returns-clause-formed : goal.returns-clause-formed
+returns-clause-formed c key_of sectors moment s fresh turns formed matched writes given =
+    kept_formed sectors (IsUnnamedByKey sectors s.pool (found s.table)) (opening_of key_of s moment) (course_of (opening_of key_of s moment) s.pool fresh turns)
+    (written_all sectors (opening_of key_of s moment) s.pool fresh turns refl formed matched given writes).kept
+
+pub returns-clause-matches : goal.returns-clause-matches
+returns-clause-matches c key_of sectors moment s fresh turns formed matched writes given changes =
+    written_matches sectors (IsUnnamedByKey sectors s.pool (found s.table)) (opening_of key_of s moment) (course_of (opening_of key_of s moment) s.pool fresh turns)
+    (written_all sectors (opening_of key_of s moment) s.pool fresh turns refl formed matched given writes) changes
