@@ -123,27 +123,27 @@ writing_step opening course later (put_fresh p is runs birth alone) writing = pu
 writing_step opening course later (put_home p home is runs at) writing = put_writing opening course later p is writing
 
 -- at the opening
-pub kept_opened : (sectors : ℕ) (opening : Opening) (pool : Pool) (fresh : List (List ℕ)) → opening.number ≡ pool.group + 1 → IsWellFormed sectors pool → MatchesByKey sectors pool (found opening.table)
-    → IsKept sectors opening.number (IsUnnamedByKey sectors pool (found opening.table)) [] pool.pointers (found opening.table)
-kept_opened sectors opening pool fresh number formed matched = record {
-  pairs = formed.together;
-  within = all_from (LiesWithin sectors pool.group) (LiesWithin sectors opening.number) (λ p lies. record { start = lies.start; end = lies.end; birth = omega (arith, lies.birth, number) }) pool.pointers formed.within;
-  uncounted = none_counted;
-  homes_within = λ key home waits. let zero = zero_of key home waits in record {
-    start = matched.start key home waits.left_is zero;
-    end = matched.end key home waits.left_is zero;
-    birth = omega (arith, matched.births key home waits.left_is zero, number);
-  };
-  waiting = λ key home waits. matched.waiting key home waits.left_is (zero_of key home waits);
-  apart = λ key other home second differ waits waits_too. matched.apart key other home second differ waits.left_is (zero_of key home waits) waits_too.left_is (zero_of other second waits_too);
-  opens = λ place length is ungiven. record {
-    pointers = is.no_pointer;
-    homes = λ key home waits. is.not_waiting key home waits.left_is (zero_of key home waits);
-  };
-}
+pub kept_opened : (sectors number : ℕ) (pool : Pool) (before : Key → Option Home) → pool.group ≤ number → IsWellFormed sectors pool → MatchesByKey sectors pool before
+    → IsKept sectors number (IsUnnamedByKey sectors pool before) [] pool.pointers before
+kept_opened sectors number pool before later formed matched = record {
+    pairs = formed.together;
+    within = all_from (LiesWithin sectors pool.group) (LiesWithin sectors number) (λ p lies. record { start = lies.start; end = lies.end; birth = omega (arith, lies.birth, later) }) pool.pointers formed.within;
+    uncounted = none_counted;
+    homes_within = λ key home waits. let zero = zero_of key home waits in record {
+      start = matched.start key home waits.left_is zero;
+      end = matched.end key home waits.left_is zero;
+      birth = omega (arith, matched.births key home waits.left_is zero, later);
+    };
+    waiting = λ key home waits. matched.waiting key home waits.left_is (zero_of key home waits);
+    apart = λ key other home second differ waits waits_too. matched.apart key other home second differ waits.left_is (zero_of key home waits) waits_too.left_is (zero_of other second waits_too);
+    opens = λ place length is ungiven. record {
+      pointers = is.no_pointer;
+      homes = λ key home waits. is.not_waiting key home waits.left_is (zero_of key home waits);
+    };
+  }
   where
-    none_counted : (key : Key) → filter (tracks key) pool.pointers ≡ [] → counted (found opening.table key) ≡ None
+    none_counted : (key : Key) → filter (tracks key) pool.pointers ≡ [] → counted (before key) ≡ None
     none_counted key none = matched.homes key ∙ ap home_of_pointers none
 
-    zero_of : (key : Key) (home : Home) → Waits pool.pointers (found opening.table) key home → home.count ≡ 0
+    zero_of : (key : Key) (home : Home) → Waits pool.pointers before key home → home.count ≡ 0
     zero_of key home waits = uncounted_zero home (sym (ap counted waits.left_is) ∙ none_counted key waits.none)

@@ -84,3 +84,10 @@ left_by-none before (Some p) none = absurd (cc none)
 pub home_now-none : (left : Option Home) (ps : List Pointer) → home_now left ps ≡ None → left ≡ None
 home_now-none left [] none = none
 home_now-none left (p ∷ ps) none = absurd (cc none)
+
+-- a table that matches its pool has each key's home
+pub matched_home : (o : Option Home) (ps : List Pointer) → counted o ≡ home_of_pointers ps → home_now o ps ≡ o
+matched_home o [] e = refl
+matched_home None (p ∷ ps) e = absurd (cc e)
+matched_home (Some h) (p ∷ ps) e =
+    elim (nat_lt 0 h.count) as (λ b. cond b (Some h) None ≡ home_of_pointers (p ∷ ps) → home_now (Some h) (p ∷ ps) ≡ Some h) [ true ↦ λ same. sym same | false ↦ λ none. absurd (cc none) ] e

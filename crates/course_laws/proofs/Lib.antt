@@ -1,9 +1,11 @@
+mod Aside
 mod Counts
 mod Courses
 mod Homes
 mod Joining
 mod Keeping
 mod Pointers
+mod Removing
 mod Rows
 mod Settling
 mod Steps

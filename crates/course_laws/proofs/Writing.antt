@@ -1,5 +1,5 @@
 -- A group of writes alone: it leaves a pool that is well formed, and homes that count its pointers.
-use Rattle.std.proofs.Common.{◌≡◌, ℕ, ◌+◌, ◌≤◌, Bool, true, false, cond, nat_lt, List, [], ◌∷◌, filter, fold, Option, Some, None, inl, inr, refl, sym, ap, ◌∙◌}
+use Rattle.std.proofs.Common.{◌≡◌, ℕ, ◌+◌, ◌≤◌, Bool, true, false, cond, nat_lt, List, [], ◌∷◌, filter, fold, Option, Some, None, inl, inr, refl, sym, ap, ◌∙◌, arith}
 use Rattle.std.specs.List.{AllByRecursion}
 use Rattle.ddt_entry.specs.declared.key.Key.{Key}
 use Rattle.ddt_entry.specs.declared.entry.Home.{Home}
@@ -8,7 +8,7 @@ use Rattle.pool_model.specs.Table.{counted, home_of_pointers, found, found_over}
 use Rattle.pool_model.specs.Command.{Opening, Turn, Course, after}
 use Rattle.pool_model.specs.Group.{settled, change_from, opened, course_of}
 use Rattle.course_laws.specs.ByKey.{MatchesByKey, IsUnnamedByKey, AreFreshByKey, ChangesByKey, is_touched, home_after, IsWrite}
-use Rattle.course_laws.proofs.Homes.{home_now, counted_now, left_now, zero_uncounted, left_by-none, home_now-none}
+use Rattle.course_laws.proofs.Homes.{matched_home, home_now, counted_now, left_now, zero_uncounted, left_by-none, home_now-none}
 use Rattle.course_laws.proofs.Keeping.{Waits, IsKept}
 use Rattle.course_laws.proofs.Settling.{over_settled, settled-same, counted_settled, settled_uncounted}
 use Rattle.course_laws.proofs.Steps.{left_of, home_of, home_of-known, written_step}
@@ -72,16 +72,10 @@ pub written_all : (sectors : ℕ) (opening : Opening) (pool : Pool) (fresh : Lis
     → IsWritten sectors (IsUnnamedByKey sectors pool (found opening.table)) opening (course_of opening pool fresh turns)
 written_all sectors opening pool fresh turns number formed matched given writes =
     written_on sectors (IsUnnamedByKey sectors pool (found opening.table)) (λ place length is. (is.start, is.end)) opening turns (opened pool fresh) writes given (record {
-      kept = kept_opened sectors opening pool fresh number formed matched;
-      touching = λ key none. first_home (found opening.table key) (filter (tracks key) pool.pointers) (matched.homes key);
+      kept = kept_opened sectors opening.number pool (found opening.table) (omega (arith, number)) formed matched;
+      touching = λ key none. matched_home (found opening.table key) (filter (tracks key) pool.pointers) (matched.homes key);
       writing = λ key none. refl;
     })
-  where
-    first_home : (before : Option Home) (ps : List Pointer) → counted before ≡ home_of_pointers ps → home_now before ps ≡ before
-    first_home before [] e = refl
-    first_home None (p ∷ ps) e = absurd (cc e)
-    first_home (Some home) (p ∷ ps) e =
-        elim (nat_lt 0 home.count) as (λ b. cond b (Some home) None ≡ home_of_pointers (p ∷ ps) → home_now (Some home) (p ∷ ps) ≡ Some home) [ true ↦ λ same. sym same | false ↦ λ none. absurd (cc none) ] e
 
 -- a home that isn't counted at the end is the table's, of a key without counted pointers
 still_waits : (number : ℕ) (before left : Option Home) (ps : List Pointer) (home : Home) → (home_now left ps ≡ None → before ≡ None) → (ps ≡ [] → left ≡ before) → settled number before (home_now left ps) ≡ Some home → home.count ≡ 0
