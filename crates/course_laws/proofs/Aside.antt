@@ -1,18 +1,16 @@
 -- Homes of the table that a group sets aside for one that it makes: their runs stay open, since they may come back.
-use Rattle.std.proofs.Common.{◌≡◌, ℕ, ◌+◌, ◌≤◌, ◌<◌, Bool, true, false, cond, not, nat_lt, ◌&&◌, List, [], ◌∷◌, length, filter, Option, Some, None, inl, inr, refl, sym, ap, subst, ◌∙◌, arith}
+use Rattle.std.proofs.Common.{◌≡◌, ℕ, ◌+◌, ◌≤◌, ◌<◌, Bool, true, false, cond, List, [], ◌∷◌, length, filter, Option, Some, None, inl, inr, refl, sym, ap, subst, ◌∙◌, arith}
 use Rattle.std.specs.Prelude.{◌⊎◌}
-use Rattle.std.specs.List.{AllByRecursion, find}
+use Rattle.std.specs.List.{AllByRecursion}
 use Rattle.ddt_entry.specs.declared.key.Key.{Key}
 use Rattle.ddt_entry.specs.declared.entry.Home.{Home}
 use Rattle.ddt_entry.specs.Keys.{key_eq}
-use Rattle.ddt_entry.proofs.KeyLaws.{key_eq-true, key_eq-same}
-use Rattle.pool_model.specs.Pool.{Pool, Pointer, Pairwise, IsApart, GoTogether, SharesHome, LiesWithin, IsWellFormed, run_length, since_of, is_tracked, is_at, tracks, comes_before, insert_pointer}
-use Rattle.pool_model.specs.Table.{counted, home_of_pointers, IsApartFrom}
-use Rattle.pool_model.specs.Command.{home_at}
+use Rattle.ddt_entry.proofs.KeyLaws.{key_eq-true}
+use Rattle.pool_model.specs.Pool.{Pool, Pointer, Pairwise, IsApart, GoTogether, SharesHome, IsWellFormed, run_length, is_tracked, tracks, comes_before, insert_pointer}
 use Rattle.course_laws.specs.ByKey.{MatchesByKey, IsUnnamedByKey}
-use Rattle.course_laws.proofs.Pointers.{all_insert, none_insert, filter_insert, apart_turned, tracks-key, first_has}
+use Rattle.course_laws.proofs.Pointers.{all_insert, none_insert, filter_insert, apart_turned, tracks-key}
 use Rattle.course_laws.proofs.Homes.{left_after, home_now, home_now-later, matched_home}
-use Rattle.course_laws.proofs.Keeping.{Waits, IsUngiven, IsOpen, HomeWithin, IsKept, waited}
+use Rattle.course_laws.proofs.Keeping.{Waits, IsOpen, IsKept, waited}
 use Rattle.course_laws.proofs.Joining.{Beside, first_beside}
 use Rattle.course_laws.proofs.Removing.{HasHome, has_now, has_within, has_open, has_apart, SameHome, taken_same, waited_or_lost, all_filter}
 use Rattle.course_laws.proofs.Courses.{kept_opened}
@@ -93,10 +91,10 @@ module _ (p : Pointer) (ps : List Pointer) (left later : Key → Option Home) (a
   pub home_aside : (number : ℕ) (before : Key → Option Home) (at : Home) → Pairwise GoTogether (insert_pointer p ps) → home_now (left p.key) (filter (tracks p.key) ps) ≡ Some at → p.place ≡ at.place → p.birth ≡ at.birth
       → IsAside number before ps left → IsAside number before (insert_pointer p ps) later
   home_aside number before at pairs at_is place birth was = record {
-      stays = λ key home is. stays_by key home (tracks key p) refl is;
-      aside = λ key table home is_table is own. let opens = aside_by key table home is_table (tracks key p) refl is own in
-          put_open table.place (run_length key) opens (apart_from table.place (run_length key) opens);
-    }
+    stays = λ key home is. stays_by key home (tracks key p) refl is;
+    aside = λ key table home is_table is own. let opens = aside_by key table home is_table (tracks key p) refl is own in
+        put_open table.place (run_length key) opens (apart_from table.place (run_length key) opens);
+  }
     where
       apart_from : (place length : ℕ) → IsOpen ps left place length → IsApart place length p.place (run_length p.key)
       apart_from a n opens = rw place (has_open ps left a n opens p.key at (has_now ps left p.key at at_is))
@@ -124,9 +122,9 @@ module _ (p : Pointer) (ps : List Pointer) (left later : Key → Option Home) (a
       → IsKept sectors number unnamed given ps left → Pairwise GoTogether (insert_pointer p ps) → p.birth ≡ number → unnamed p.place (run_length p.key) → (is_tracked p.mark ≡ true → filter (tracks p.key) ps ≡ [])
       → IsAside number before ps left → IsAside number before (insert_pointer p ps) later
   fresh_aside sectors number unnamed given before table_homes gone kept pairs birth named first was = record {
-      stays = λ key home is. stays_by key home (tracks key p) refl is;
-      aside = λ key table home is_table is own. aside_by key table home is_table (tracks key p) refl is own;
-    }
+    stays = λ key home is. stays_by key home (tracks key p) refl is;
+    aside = λ key table home is_table is own. aside_by key table home is_table (tracks key p) refl is own;
+  }
     where
       apart_from : (key : Key) (table : Home) → before key ≡ Some table → IsApart table.place (run_length key) p.place (run_length p.key)
       apart_from key table is_table = apart_turned p.place (run_length p.key) table.place (run_length key) (table_homes.unnamed_apart p.place (run_length p.key) named key table is_table)
@@ -138,11 +136,11 @@ module _ (p : Pointer) (ps : List Pointer) (left later : Key → Option Home) (a
       -- the run of the table's home, once it waited and its key has a new one
       given_up : (key : Key) (table waits_at : Home) → before key ≡ Some table → tracks key p ≡ true → Waits ps left key waits_at → table.place ≡ waits_at.place → IsOpen (insert_pointer p ps) later table.place (run_length key)
       given_up key table waits_at is_table counts waits same = record {
-          pointers = all_insert (λ q. IsApart table.place (run_length key) q.place (run_length q.key)) p ps (apart_from key table is_table)
-              (subst (λ (place : ℕ). AllByRecursion (λ q. IsApart place (run_length key) q.place (run_length q.key)) ps) (sym same) (kept.waiting key waits_at waits));
-          homes = λ other second waits_too. let before_too = waited p ps left later as_left other second waits_too in
-              subst (λ (place : ℕ). IsApart place (run_length key) second.place (run_length other)) (sym same) (kept.apart key other waits_at second (unkeyed other before_too.0) waits before_too.1);
-        }
+        pointers = all_insert (λ q. IsApart table.place (run_length key) q.place (run_length q.key)) p ps (apart_from key table is_table)
+            (subst (λ (place : ℕ). AllByRecursion (λ q. IsApart place (run_length key) q.place (run_length q.key)) ps) (sym same) (kept.waiting key waits_at waits));
+        homes = λ other second waits_too. let before_too = waited p ps left later as_left other second waits_too in
+            subst (λ (place : ℕ). IsApart place (run_length key) second.place (run_length other)) (sym same) (kept.apart key other waits_at second (unkeyed other before_too.0) waits before_too.1);
+      }
         where
           unkeyed : (other : Key) → tracks other p ≡ false → key_eq key other ≡ false
           unkeyed other differs = elim (key_eq key other) as (λ b. (key_eq key other ≡ b) → b ≡ false) [
@@ -189,9 +187,9 @@ before_opened sectors pool before formed matched =
 
 pub aside_opened : (sectors number : ℕ) (pool : Pool) (before : Key → Option Home) → number ≡ pool.group + 1 → IsWellFormed sectors pool → MatchesByKey sectors pool before → IsAside number before pool.pointers before
 aside_opened sectors number pool before later formed matched = record {
-    stays = λ key home is. inr (record { was = home; is = sym (whole key) ∙ is; place = refl; birth = refl });
-    aside = λ key was home is_was is own. absurd (omega (arith, own, later, (before_opened sectors pool before formed matched).birth key home (sym (whole key) ∙ is)));
-  }
+  stays = λ key home is. inr (record { was = home; is = sym (whole key) ∙ is; place = refl; birth = refl });
+  aside = λ key was home is_was is own. absurd (omega (arith, own, later, (before_opened sectors pool before formed matched).birth key home (sym (whole key) ∙ is)));
+}
   where
     whole : (key : Key) → home_now (before key) (filter (tracks key) pool.pointers) ≡ before key
     whole key = matched_home (before key) (filter (tracks key) pool.pointers) (matched.homes key)

@@ -14,7 +14,7 @@ use Rattle.course_laws.proofs.Joining.{given_longer, fresh_joins, plain_alone, f
 use Rattle.course_laws.proofs.Steps.{left_of, home_of, IsPut, IsAlone, uncounted, unshared, IsAtHome, Step, stood, put_fresh, put_home}
 
 -- of runs of which none shares a sector with another, the last one doesn't, nor do the others
-fresh_last : (unnamed : (place length : ℕ) → Type 0) (given : List (ℕ × ℕ)) (place length : ℕ) → AreFreshByKey unnamed (given ++ (place, length) ∷ []) → AreFreshByKey unnamed given × unnamed place length × IsUngiven given place length
+pub fresh_last : (unnamed : (place length : ℕ) → Type 0) (given : List (ℕ × ℕ)) (place length : ℕ) → AreFreshByKey unnamed (given ++ (place, length) ∷ []) → AreFreshByKey unnamed given × unnamed place length × IsUngiven given place length
 fresh_last unnamed [] place length fresh = (record { unnamed = tt; apart = tt }, fresh.unnamed.0, tt)
 fresh_last unnamed (g ∷ given) place length fresh =
     let rest = fresh_last unnamed given place length (record { unnamed = fresh.unnamed.1; apart = fresh.apart.1 }) in
@@ -34,7 +34,7 @@ module _ (sectors : ℕ) (unnamed : (place length : ℕ) → Type 0) (inside : (
   abbrev pub KeptAt : Course → Type 0
   KeptAt course = KeptIn course.given course.pool.pointers course.earlier
 
-  same_kept : (given more : List (ℕ × ℕ)) (ps qs : List Pointer) (earlier later : List Pool) → more ≡ given → qs ≡ ps → later ≡ earlier → KeptIn given ps earlier → KeptIn more qs later
+  pub same_kept : (given more : List (ℕ × ℕ)) (ps qs : List Pointer) (earlier later : List Pool) → more ≡ given → qs ≡ ps → later ≡ earlier → KeptIn given ps earlier → KeptIn more qs later
   same_kept given more ps qs earlier later runs pointers pools kept =
       subst (λ (x : List (ℕ × ℕ)). KeptIn x qs later) (sym runs)
       (subst (λ (x : List Pointer). KeptIn given x later) (sym pointers)
@@ -126,21 +126,21 @@ writing_step opening course later (put_home p home is runs at) writing = put_wri
 pub kept_opened : (sectors number : ℕ) (pool : Pool) (before : Key → Option Home) → pool.group ≤ number → IsWellFormed sectors pool → MatchesByKey sectors pool before
     → IsKept sectors number (IsUnnamedByKey sectors pool before) [] pool.pointers before
 kept_opened sectors number pool before later formed matched = record {
-    pairs = formed.together;
-    within = all_from (LiesWithin sectors pool.group) (LiesWithin sectors number) (λ p lies. record { start = lies.start; end = lies.end; birth = omega (arith, lies.birth, later) }) pool.pointers formed.within;
-    uncounted = none_counted;
-    homes_within = λ key home waits. let zero = zero_of key home waits in record {
-      start = matched.start key home waits.left_is zero;
-      end = matched.end key home waits.left_is zero;
-      birth = omega (arith, matched.births key home waits.left_is zero, later);
-    };
-    waiting = λ key home waits. matched.waiting key home waits.left_is (zero_of key home waits);
-    apart = λ key other home second differ waits waits_too. matched.apart key other home second differ waits.left_is (zero_of key home waits) waits_too.left_is (zero_of other second waits_too);
-    opens = λ place length is ungiven. record {
-      pointers = is.no_pointer;
-      homes = λ key home waits. is.not_waiting key home waits.left_is (zero_of key home waits);
-    };
-  }
+  pairs = formed.together;
+  within = all_from (LiesWithin sectors pool.group) (LiesWithin sectors number) (λ p lies. record { start = lies.start; end = lies.end; birth = omega (arith, lies.birth, later) }) pool.pointers formed.within;
+  uncounted = none_counted;
+  homes_within = λ key home waits. let zero = zero_of key home waits in record {
+    start = matched.start key home waits.left_is zero;
+    end = matched.end key home waits.left_is zero;
+    birth = omega (arith, matched.births key home waits.left_is zero, later);
+  };
+  waiting = λ key home waits. matched.waiting key home waits.left_is (zero_of key home waits);
+  apart = λ key other home second differ waits waits_too. matched.apart key other home second differ waits.left_is (zero_of key home waits) waits_too.left_is (zero_of other second waits_too);
+  opens = λ place length is ungiven. record {
+    pointers = is.no_pointer;
+    homes = λ key home waits. is.not_waiting key home waits.left_is (zero_of key home waits);
+  };
+}
   where
     none_counted : (key : Key) → filter (tracks key) pool.pointers ≡ [] → counted (before key) ≡ None
     none_counted key none = matched.homes key ∙ ap home_of_pointers none

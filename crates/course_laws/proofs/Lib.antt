@@ -1,6 +1,7 @@
 mod Aside
 mod Counts
 mod Courses
+mod Going
 mod Homes
 mod Joining
 mod Keeping
@@ -9,4 +10,5 @@ mod Removing
 mod Rows
 mod Settling
 mod Steps
+mod Turning
 mod Writing

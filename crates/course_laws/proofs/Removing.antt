@@ -1,17 +1,17 @@
 -- What is kept when pointers are taken out: a home whose last pointer goes begins to wait.
-use Rattle.std.proofs.Common.{◌≡◌, ℕ, ◌+◌, ◌≤◌, Bool, true, false, cond, not, ◌&&◌, List, [], ◌∷◌, length, filter, Option, Some, None, refl, sym, ap, subst, ◌∙◌, arith}
+use Rattle.std.proofs.Common.{◌≡◌, ℕ, Bool, true, false, cond, not, ◌&&◌, List, [], ◌∷◌, length, filter, Option, Some, None, refl, sym, ap, ◌∙◌, arith}
 use Rattle.std.specs.List.{AllByRecursion, find}
 use Rattle.std.proofs.lemmas.Bool.Decides.{nat_tests}
 use Rattle.ddt_entry.specs.declared.key.Key.{Key}
 use Rattle.ddt_entry.specs.declared.entry.Home.{Home}
 use Rattle.ddt_entry.specs.Keys.{key_eq}
 use Rattle.ddt_entry.proofs.KeyLaws.{key_eq-symm}
-use Rattle.pool_model.specs.Pool.{Pool, Pointer, Pairwise, IsApart, GoTogether, SharesHome, LiesWithin, run_length, since_of, is_tracked, is_at, tracks}
+use Rattle.pool_model.specs.Pool.{Pointer, Pairwise, IsApart, GoTogether, SharesHome, LiesWithin, run_length, is_tracked, is_at, tracks}
 use Rattle.pool_model.specs.Table.{counted, IsApartFrom}
 use Rattle.pool_model.specs.Command.{home_at}
 use Rattle.course_laws.proofs.Pointers.{all_from, all_from_both, all_fail, first_has, apart_turned, tracks-key}
 use Rattle.course_laws.proofs.Homes.{left_after, home_now}
-use Rattle.course_laws.proofs.Keeping.{Waits, IsUngiven, IsOpen, HomeWithin, IsKept}
+use Rattle.course_laws.proofs.Keeping.{Waits, IsOpen, HomeWithin, IsKept}
 use Rattle.course_laws.proofs.Joining.{Beside, first_beside}
 
 pub all_filter : (P : Pointer → Type 0) (test : Pointer → Bool) (ps : List Pointer) → AllByRecursion P ps → AllByRecursion P (filter test ps)
@@ -100,17 +100,17 @@ module _ (test : Pointer → Bool) (ps : List Pointer) (left later : Key → Opt
 
   pub taken_kept : (sectors number : ℕ) (unnamed : (place length : ℕ) → Type 0) (given : List (ℕ × ℕ)) → IsKept sectors number unnamed given ps left → IsKept sectors number unnamed given (filter test ps) later
   taken_kept sectors number unnamed given kept = record {
-      pairs = pairs_filter GoTogether test ps kept.pairs;
-      within = all_filter (LiesWithin sectors number) test ps kept.within;
-      uncounted = λ key none. uncounted_by key (filter (tracks key) ps) refl;
-      homes_within = λ key home waits. has_within sectors number unnamed given ps left kept key home (waited_or_lost key home waits);
-      waiting = λ key home waits. waiting_by key home waits.none (waited_or_lost key home waits);
-      apart = λ key other home second differ waits waits_too. has_apart sectors number unnamed given ps left kept key other home second differ (waited_or_lost key home waits) (waited_or_lost other second waits_too);
-      opens = λ place length is ungiven. let was = kept.opens place length is ungiven in record {
-        pointers = all_filter (λ q. IsApart place length q.place (run_length q.key)) test ps was.pointers;
-        homes = λ key home waits. has_open ps left place length was key home (waited_or_lost key home waits);
-      };
-    }
+    pairs = pairs_filter GoTogether test ps kept.pairs;
+    within = all_filter (LiesWithin sectors number) test ps kept.within;
+    uncounted = λ key none. uncounted_by key (filter (tracks key) ps) refl;
+    homes_within = λ key home waits. has_within sectors number unnamed given ps left kept key home (waited_or_lost key home waits);
+    waiting = λ key home waits. waiting_by key home waits.none (waited_or_lost key home waits);
+    apart = λ key other home second differ waits waits_too. has_apart sectors number unnamed given ps left kept key other home second differ (waited_or_lost key home waits) (waited_or_lost other second waits_too);
+    opens = λ place length is ungiven. let was = kept.opens place length is ungiven in record {
+      pointers = all_filter (λ q. IsApart place length q.place (run_length q.key)) test ps was.pointers;
+      homes = λ key home waits. has_open ps left place length was key home (waited_or_lost key home waits);
+    };
+  }
     where
       uncounted_by : (key : Key) (counts : List Pointer) → filter (tracks key) ps ≡ counts → counted (later key) ≡ None
       uncounted_by key [] e = ap counted (as_left key ∙ ap (left_after (left key)) e) ∙ kept.uncounted key e
@@ -155,7 +155,7 @@ pub taken_others : (key : Key) (lane slot : ℕ) (ps : List Pointer) (p : Pointe
 taken_others key lane slot [] p pairs there other = refl
 taken_others key lane slot (q ∷ qs) p pairs there other =
     elim (is_at lane slot q) as (λ b. (is_at lane slot q ≡ b) → cond b (Some q) (find (is_at lane slot) qs) ≡ Some p
-        → filter (tracks key) (cond (not b) (q ∷ filter (λ r. not (is_at lane slot r)) qs) (filter (λ r. not (is_at lane slot r)) qs)) ≡ filter (tracks key) (q ∷ qs)) [
+    → filter (tracks key) (cond (not b) (q ∷ filter (λ r. not (is_at lane slot r)) qs) (filter (λ r. not (is_at lane slot r)) qs)) ≡ filter (tracks key) (q ∷ qs)) [
       | true ↦ λ here e.
           let same : q ≡ p = cc e in
           let fails : tracks key q ≡ false = ap (tracks key) same ∙ other in

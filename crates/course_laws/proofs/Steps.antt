@@ -55,7 +55,7 @@ either_false false false e = (refl, refl)
 either_false false true e = absurd (cc e)
 either_false true b e = absurd (cc e)
 
-any_last : (test : Key → Bool) (keys : List Key) (key : Key) → list_any test (keys ++ key ∷ []) ≡ false → (list_any test keys ≡ false) × (test key ≡ false)
+pub any_last : (test : Key → Bool) (keys : List Key) (key : Key) → list_any test (keys ++ key ∷ []) ≡ false → (list_any test keys ≡ false) × (test key ≡ false)
 any_last test [] key none = (refl, (either_false (test key) false none).0)
 any_last test (k ∷ keys) key none =
     let both = either_false (test k) (list_any test (keys ++ key ∷ [])) none in

@@ -1,5 +1,5 @@
--- A group of writes alone: it leaves a pool that is well formed, and homes that count its pointers.
-use Rattle.std.proofs.Common.{◌≡◌, ℕ, ◌+◌, ◌≤◌, Bool, true, false, cond, nat_lt, List, [], ◌∷◌, filter, fold, Option, Some, None, inl, inr, refl, sym, ap, ◌∙◌, arith}
+-- What a group's changes make of its homes, and that a group of writes alone leaves each waiting home where it was.
+use Rattle.std.proofs.Common.{◌≡◌, ℕ, ◌+◌, ◌≤◌, Bool, true, false, List, [], ◌∷◌, filter, fold, Option, Some, None, inl, inr, refl, sym, ap, ◌∙◌, arith}
 use Rattle.std.specs.List.{AllByRecursion}
 use Rattle.ddt_entry.specs.declared.key.Key.{Key}
 use Rattle.ddt_entry.specs.declared.entry.Home.{Home}
@@ -107,16 +107,6 @@ module _ (sectors : ℕ) (unnamed : (place length : ℕ) → Type 0) (opening : 
       let waits = still_waits opening.number (found opening.table key) (left_of opening course key) (filter (tracks key) course.pool.pointers) home (gone_of opening course key) (is.writing key)
       (sym (after_settled opening course is.touching changes key) ∙ after_is) zero in
       (record { none = waits.0; left_is = waits.1 }, waits.2)
-
-  pub written_matches : MatchesByKey sectors (record course.pool { group = opening.number }) (λ key. home_after opening course (found opening.table key) key)
-  written_matches = record {
-    homes = after_counted sectors unnamed opening course is.kept is.touching changes;
-    waiting = λ key home home_is zero. is.kept.waiting key home (written_waits key home home_is zero).0;
-    apart = λ key other home second differ home_is zero second_is zero_too. is.kept.apart key other home second differ (written_waits key home home_is zero).0 (written_waits other second second_is zero_too).0;
-    births = λ key home home_is zero. (is.kept.homes_within key home (written_waits key home home_is zero).0).birth;
-    start = λ key home home_is zero. (is.kept.homes_within key home (written_waits key home home_is zero).0).start;
-    end = λ key home home_is zero. (is.kept.homes_within key home (written_waits key home home_is zero).0).end;
-  }
 
 -- the pool that it leaves is well formed
 pub kept_formed : (sectors : ℕ) (unnamed : (place length : ℕ) → Type 0) (opening : Opening) (course : Course) → IsKept sectors opening.number unnamed course.given course.pool.pointers (left_of opening course)

@@ -18,14 +18,14 @@ pub fn a_group_grows_by_its_turns()
     ensures changes { (opening : Opening) (pool : Pool) (fresh : List (List ℕ)) (turns : List Turn) → length (changes_of opening (course_of opening pool fresh turns)) ≤ length turns }
 {}
 
-/// A group of writes leaves a pool that is well formed, and homes that match it.
-pub fn writes_keep_a_pool_together()
+/// A group of any commands leaves a pool that is well formed, and homes that match it.
+pub fn a_group_keeps_its_pool_together()
     ensures formed { (key_of : List ℕ → Key) (sectors moment : ℕ) (s : Standing) (fresh : List (List ℕ)) (turns : List Turn)
-        → IsWellFormed sectors s.pool → MatchesByKey sectors s.pool (found s.table) → AllByRecursion (λ turn. IsWrite turn.task.act) turns
+        → IsWellFormed sectors s.pool → MatchesByKey sectors s.pool (found s.table)
         → AreFreshByKey (IsUnnamedByKey sectors s.pool (found s.table)) (course_of (opening_of key_of s moment) s.pool fresh turns).given
         → IsWellFormed sectors (record (course_of (opening_of key_of s moment) s.pool fresh turns).pool { group = s.pool.group + 1 }) }
     ensures matches { (key_of : List ℕ → Key) (sectors moment : ℕ) (s : Standing) (fresh : List (List ℕ)) (turns : List Turn)
-        → IsWellFormed sectors s.pool → MatchesByKey sectors s.pool (found s.table) → AllByRecursion (λ turn. IsWrite turn.task.act) turns
+        → IsWellFormed sectors s.pool → MatchesByKey sectors s.pool (found s.table)
         → AreFreshByKey (IsUnnamedByKey sectors s.pool (found s.table)) (course_of (opening_of key_of s moment) s.pool fresh turns).given
         → ChangesByKey (opening_of key_of s moment) (course_of (opening_of key_of s moment) s.pool fresh turns)
         → MatchesByKey sectors (record (course_of (opening_of key_of s moment) s.pool fresh turns).pool { group = s.pool.group + 1 })
