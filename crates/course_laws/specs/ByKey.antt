@@ -10,7 +10,7 @@ use Rattle.pool_model.specs.Command.{Opening, Course}
 use Rattle.pool_model.specs.Group.{change_of, changes_of}
 use Rattle.pool_model.specs.Plain.{Act, write, read, free}
 
--- each home that is found counts exactly the live pointers, and a waiting home's run is a run of blocks that is no one else's
+-- each home that is found counts exactly the live pointers, and a waiting home was made by now, and its run lies on the disk behind the ring and is no one else's
 pub record MatchesByKey (sectors : ℕ) (pool : Pool) (home_at : Key → Option Home) : Type 0 where
   pub homes : (key : Key) → counted (home_at key) ≡ home_of_pointers (tracked_at pool key)
   pub waiting : (key : Key) (home : Home) → home_at key ≡ Some home → home.count ≡ 0 → AllByRecursion (IsApartFrom (record { key = key; home = home })) pool.pointers

@@ -9,7 +9,8 @@
 //! The proofs go turn by turn. A turn puts a pointer at a fresh place or at its key's home, or takes one
 //! out, or leaves the pool; one record of facts is kept by each (`proofs/Keeping.antt`). Where a group
 //! makes a new home for a key whose old one it may come back to, the old one's run stays open meanwhile
-//! (`proofs/Aside.antt`). Whoever seals or runs groups relies on the laws; the functions do nothing.
+//! (`proofs/Aside.antt`). The laws are for whoever seals or runs groups; their
+//! functions do nothing.
 #![tactic(auto)]
 
 mod laws;
