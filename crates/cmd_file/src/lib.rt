@@ -19,6 +19,7 @@ ghost use Rattle.cmd_file.specs.Reading.{Reads};
 mod cuts;
 mod fault;
 mod grammar;
+mod progress;
 #[cfg(test)]
 mod tests;
 mod words;
