@@ -1,5 +1,5 @@
 -- What every item of a good command file keeps to.
-use Rattle.std.specs.Prelude.{◌≡◌, ℕ, ◌^◌, ◌<◌, ◌≤◌, List, length, ⊤}
+use Rattle.std.specs.Prelude.{◌≡◌, ◌^◌, ◌<◌, ◌≤◌, List, length, ⊤}
 use Rattle.std.specs.List.{AllByRecursion}
 use Rattle.pool_model.specs.Plain.{Act, write, read, free, Task, Part, create, lanes, prune, quota, set_mode, stat, «import»}
 

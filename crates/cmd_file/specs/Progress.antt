@@ -1,5 +1,5 @@
 -- What the reader of a file keeps between two lines, as the definition of a command file sees it.
-use Rattle.std.specs.Prelude.{◌≡◌, ℕ, List, map, Option, Some, None}
+use Rattle.std.specs.Prelude.{map}
 use Rattle.std.specs.Option.{option_map}
 use Rattle.pool_model.specs.Plain.{part_of, task_of}
 use Rattle.pool_model.specs.File as file

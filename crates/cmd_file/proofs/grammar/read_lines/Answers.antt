@@ -1,4 +1,4 @@
-use Rattle.std.proofs.Common.{◌≡◌, Some, None, Err, rules, sym, ap, ◌∙◌}
+use Rattle.std.proofs.Common.{◌≡◌, Some, Err, rules}
 use Rattle.std.specs.List.{slice_split}
 use Rattle.std.proofs.lemmas.Result.{err_from_is_err_and}
 use Rattle.pool_model.specs.File.{is_line_feed, first_progress, parts_in}
