@@ -1,3 +1,5 @@
 pub mod Cuts
 pub mod Faults
+pub mod Items
+pub mod Progress
 pub mod Reading

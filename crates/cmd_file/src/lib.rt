@@ -2,9 +2,11 @@
 //!
 //! `read_file` reads a source to its end, or one byte past the most that a file may have, and answers
 //! the command file that the bytes are, or the line that is bad and what is wrong with it. Which bytes
-//! are which commands is said once, by `file_of` of `pool_model`. Each step of that definition is a
-//! function here, with the step for its contract: `cuts` cuts a file into lines and a line into words,
-//! `words` reads numbers and blocks, and `grammar` reads the lines that may stand in a file.
+//! are which commands is said once, by `file_of` of `pool_model`: a step from line to line, over the
+//! items that ended and the group that is open. Each step of that definition is a function here, with
+//! the step for its contract: `cuts` cuts a file into lines and a line into words, `words` reads
+//! numbers and blocks, and `grammar` takes one line after the other, with what was read so far in a
+//! `Progress`. What the definition says of the items of every good file is a law of `laws`.
 //!
 //! The whole file is read before any of it is done, so a bad file has no effect. Want of memory is an
 //! answer of its own, and never makes a file bad. The session takes its commands from here; no other
@@ -19,6 +21,8 @@ ghost use Rattle.cmd_file.specs.Reading.{Reads};
 mod cuts;
 mod fault;
 mod grammar;
+mod laws;
+mod progress;
 #[cfg(test)]
 mod tests;
 mod words;
@@ -26,6 +30,7 @@ mod words;
 use crate::grammar::{FILE_LIMIT, parse};
 pub use fault::FileFault;
 use io_model::{Source, read_whole};
+pub use laws::items_have_their_form;
 use pool_model::CommandFile;
 use std::alloc::Global;
 

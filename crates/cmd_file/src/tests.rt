@@ -41,10 +41,11 @@ fn tell_item(text: &mut String, item: &Item) -> Result<(), AllocError> {
             for command in group.commands.as_slice() {
                 tell_command(text, command)?;
             }
-            Ok(())
+            write!(text, "end. ")
         }
-        Item::Stat => write!(text, "stat"),
-        _ => write!(text, "another item"),
+        Item::Stat => write!(text, "stat. "),
+        Item::Import => write!(text, "import. "),
+        _ => write!(text, "another item. "),
     }
 }
 
@@ -76,12 +77,23 @@ fn file_of_lengths(alloc: Global, moment: u64, lengths: &[u32]) -> Result<String
     Ok(text)
 }
 
-// How many commands and how many bytes in their blocks a file has, as text.
+// So many lines `stat`, and behind them other lines.
+fn file_of_stats(alloc: Global, stats: u32, behind: &str) -> Result<String, AllocError> {
+    let mut text = String::new(alloc);
+    for _ in 0..stats {
+        text.push_str("stat\n")?;
+    }
+    text.push_str(behind)?;
+    Ok(text)
+}
+
+// How many items, commands, and bytes in their blocks a file has, as text.
 fn sizes(alloc: Global, answer: &Result<CommandFile, FileFault>) -> Result<String, AllocError> {
     let file = match answer {
         Ok(file) => file,
         Err(fault) => return format!(in alloc; "{fault:?}"),
     };
+    let items = file.items.len();
     let mut commands = 0u64;
     let mut bytes = 0u64;
     for item in file.items.as_slice() {
@@ -94,24 +106,36 @@ fn sizes(alloc: Global, answer: &Result<CommandFile, FileFault>) -> Result<Strin
             }
         }
     }
-    format!(in alloc; "{commands} commands, {bytes} bytes")
+    format!(in alloc; "{items} items, {commands} commands, {bytes} bytes")
 }
 
 #[test]
-fn a_file_gives_its_commands_in_any_pieces(rt: HostRuntime) -> Result<(), Fail> {
+fn a_file_gives_its_items_in_any_pieces(rt: HostRuntime) -> Result<(), Fail> {
     let alloc = rt.alloc();
     let rows = [
+        ("", ""),
+        ("stat\n", "stat. "),
+        ("import\n", "import. "),
+        (
+            "import\nimport\nstat\nstat\n",
+            "import. import. stat. stat. ",
+        ),
+        ("group 7\nend\n", "group 7: end. "),
         (
             "group 1000\n0 write 1 61\nend\nstat\n",
-            "group 1000: 0 write 1 [97]; stat",
+            "group 1000: 0 write 1 [97]; end. stat. ",
         ),
         (
-            "group 0\n0 write 65535 0aff\n0 write 0 00\n0 write 65535 7b7d\nend\nstat\n",
-            "group 0: 0 write 65535 [10, 255]; 0 write 0 [0]; 0 write 65535 [123, 125]; stat",
+            "group 0\n0 write 65535 0aff\n0 write 0 00\n0 write 65535 7b7d\nend\n",
+            "group 0: 0 write 65535 [10, 255]; 0 write 0 [0]; 0 write 65535 [123, 125]; end. ",
         ),
         (
-            "group 1099511627775\n0 write 10 ab\nend\nstat\n",
-            "group 1099511627775: 0 write 10 [171]; stat",
+            "group 1099511627775\n0 write 10 ab\nend\nimport\nstat\n",
+            "group 1099511627775: 0 write 10 [171]; end. import. stat. ",
+        ),
+        (
+            "group 9\n0 write 2 61\n0 write 1 62\nend\ngroup 8\n0 write 3 63\nend\nstat\n",
+            "group 9: 0 write 2 [97]; 0 write 1 [98]; end. group 8: 0 write 3 [99]; end. stat. ",
         ),
     ];
     for (text, want) in rows {
@@ -119,53 +143,49 @@ fn a_file_gives_its_commands_in_any_pieces(rt: HostRuntime) -> Result<(), Fail> 
             assert!(rt; piece > 0);
             let answer = read(alloc, text, piece, &[])?;
             let told = told(alloc, &answer)?;
-            assert_eq!(rt; told.as_str(), want, "in pieces of {piece}");
+            assert_eq!(rt; told.as_str(), want, "{text:?} in pieces of {piece}");
         }
     }
     Ok(())
 }
 
 #[test]
-fn a_malformed_file_is_bad_as_a_whole(rt: HostRuntime) -> Result<(), Fail> {
+fn a_line_that_may_not_stand_where_it_is_makes_a_file_bad(rt: HostRuntime) -> Result<(), Fail> {
     let alloc = rt.alloc();
     let rows = [
-        "",
         "\n",
+        "\nstat\n",
+        "stat\n\n",
+        "stat",
+        "stat\nstat",
+        "import",
+        "stat\nx",
         "hello\n",
-        "group 1\n0 write 1 61\nend\nstat",
-        "group 1\r\n0 write 1 61\r\nend\r\nstat\r\n",
-        "group 1\n0 write 1 6A\nend\nstat\n",
-        "group 1\n0 write 1 6g\nend\nstat\n",
-        "group 1\n0 write 1 616\nend\nstat\n",
-        "group 1\n0 write 1 \nend\nstat\n",
-        "group 1\n0 write 1\nend\nstat\n",
-        "group 1\n0 write 1 61 62\nend\nstat\n",
-        "group 1\n0 write 1 61 \nend\nstat\n",
-        "group 1\n0  write 1 61\nend\nstat\n",
-        "group 1\n 0 write 1 61\nend\nstat\n",
-        "group 1\n0 write 65536 61\nend\nstat\n",
-        "group 1\n0 write 01 61\nend\nstat\n",
-        "group 1\n0 write +1 61\nend\nstat\n",
-        "group 1\n0 write 1x 61\nend\nstat\n",
-        "group 1\n0 write 18446744073709551617 61\nend\nstat\n",
-        "group 1\n1 write 1 61\nend\nstat\n",
-        "group 1\n0 read 1\nend\nstat\n",
-        "group 1\n0 write 1 61*2\nend\nstat\n",
-        "group 1099511627776\n0 write 1 61\nend\nstat\n",
-        "group 01\n0 write 1 61\nend\nstat\n",
-        "group\n0 write 1 61\nend\nstat\n",
-        "group 1 2\n0 write 1 61\nend\nstat\n",
-        "prune 1\n0 write 1 61\nend\nstat\n",
-        "group 1\nend\nstat\n",
-        "group 1\n0 write 1 61\nstat\n",
-        "group 1\n0 write 1 61\nend\n",
+        "create\n",
+        "Stat\n",
+        "stats\n",
+        "stat \n",
+        " stat\n",
+        "stat 2\n",
+        "import 2\n",
+        "stat\r\n",
+        "# a note\nstat\n",
+        "end\n",
+        "stat\nend\n",
+        "0 write 1 61\n",
+        "group 1\nend\n0 write 1 61\n",
+        "group 1",
+        "group 1\n",
+        "group 1\n0 write 1 61\n",
         "group 1\n0 write 1 61\nend",
-        "group 1\n0 write 1 61\nend\nimport\n",
-        "group 1\n0 write 1 61\nend\nstat\n\n",
-        "group 1\n0 write 1 61\nend\nstat\nstat\n",
-        "group 1\n0 write 1 61\nend\nstat\nx",
-        "group 1\n\n0 write 1 61\nend\nstat\n",
-        "# a note\ngroup 1\n0 write 1 61\nend\nstat\n",
+        "group 1\n0 write 1 61\nstat\n",
+        "group 1\n0 write 1 61\nstat\nend\n",
+        "group 1\nimport\nend\n",
+        "group 1\ngroup 2\nend\n",
+        "group 1\ngroup 2\nend\nend\n",
+        "group 1\nend\nend\n",
+        "group 1\n\n0 write 1 61\nend\n",
+        "group 1\r\n0 write 1 61\r\nend\r\nstat\r\n",
     ];
     for text in rows {
         let answer = read(alloc, text, 4096, &[])?;
@@ -176,19 +196,66 @@ fn a_malformed_file_is_bad_as_a_whole(rt: HostRuntime) -> Result<(), Fail> {
 }
 
 #[test]
-fn a_file_may_reach_each_limit_and_not_pass_it(rt: HostRuntime) -> Result<(), Fail> {
+fn a_word_out_of_its_form_makes_a_file_bad(rt: HostRuntime) -> Result<(), Fail> {
+    let alloc = rt.alloc();
+    let rows = [
+        "group 1\n0 write 1 6A\nend\n",
+        "group 1\n0 write 1 6g\nend\n",
+        "group 1\n0 write 1 616\nend\n",
+        "group 1\n0 write 1 \nend\n",
+        "group 1\n0 write 1\nend\n",
+        "group 1\n0 write 1 61 62\nend\n",
+        "group 1\n0 write 1 61 \nend\n",
+        "group 1\n0  write 1 61\nend\n",
+        "group 1\n0 write  1 61\nend\n",
+        "group 1\n 0 write 1 61\nend\n",
+        "group 1\n0 write 65536 61\nend\n",
+        "group 1\n0 write 01 61\nend\n",
+        "group 1\n0 write 00 61\nend\n",
+        "group 1\n0 write +1 61\nend\n",
+        "group 1\n0 write 1x 61\nend\n",
+        "group 1\n0 write 18446744073709551617 61\nend\n",
+        "group 1\n1 write 1 61\nend\n",
+        "group 1\n00 write 1 61\nend\n",
+        "group 1\n0 read 1\nend\n",
+        "group 1\n0 erase 1 61\nend\n",
+        "group 1\n0 write 1 61*2\nend\n",
+        "group 1099511627776\nend\n",
+        "group 01\nend\n",
+        "group\nend\n",
+        "group \nend\n",
+        "group  1\nend\n",
+        "group 1 \nend\n",
+        "group 1 2\nend\n",
+        "group 1\nend \n",
+        "prune 1\nend\n",
+    ];
+    for text in rows {
+        let answer = read(alloc, text, 4096, &[])?;
+        let told = told(alloc, &answer)?;
+        assert_eq!(rt; told.as_str(), BAD, "{text:?}");
+    }
+    Ok(())
+}
+
+#[test]
+fn a_group_may_reach_each_limit_and_not_pass_it(rt: HostRuntime) -> Result<(), Fail> {
     let alloc = rt.alloc();
     let many = vec![in alloc; 1u32; 1_001]?;
     let mut long = vec![in alloc; 4_096u32; 127]?;
     long.push(3_377)?;
     long.push(1)?;
     let rows = [
-        (1, &many.as_slice()[..1_000], "1000 commands, 1000 bytes"),
+        (
+            1,
+            &many.as_slice()[..1_000],
+            "2 items, 1000 commands, 1000 bytes",
+        ),
         (1, many.as_slice(), BAD),
-        (1, [4_096].as_slice(), "1 commands, 4096 bytes"),
+        (1, [4_096].as_slice(), "2 items, 1 commands, 4096 bytes"),
         (1, [4_097].as_slice(), BAD),
         // A file of 1,048,576 bytes, and one of one byte more.
-        (1, long.as_slice(), "129 commands, 523570 bytes"),
+        (1, long.as_slice(), "2 items, 129 commands, 523570 bytes"),
         (10, long.as_slice(), BAD),
     ];
     for (moment, lengths, want) in rows {
@@ -202,10 +269,34 @@ fn a_file_may_reach_each_limit_and_not_pass_it(rt: HostRuntime) -> Result<(), Fa
 }
 
 #[test]
+fn a_file_has_at_most_ten_thousand_items(rt: HostRuntime) -> Result<(), Fail> {
+    let alloc = rt.alloc();
+    let rows = [
+        (10_000, "", "10000 items, 0 commands, 0 bytes"),
+        (10_001, "", BAD),
+        (9_999, "import\n", "10000 items, 0 commands, 0 bytes"),
+        (10_000, "import\n", BAD),
+        (
+            9_999,
+            "group 1\n0 write 1 61\nend\n",
+            "10000 items, 1 commands, 1 bytes",
+        ),
+        (10_000, "group 1\n0 write 1 61\nend\n", BAD),
+    ];
+    for (stats, behind, want) in rows {
+        let text = file_of_stats(alloc, stats, behind)?;
+        let answer = read(alloc, text.as_str(), 4096, &[])?;
+        let sizes = sizes(alloc, &answer)?;
+        assert_eq!(rt; sizes.as_str(), want, "{stats} times stat, and {behind:?}");
+    }
+    Ok(())
+}
+
+#[test]
 fn a_failed_read_is_a_source_fault(rt: HostRuntime) -> Result<(), Fail> {
     let alloc = rt.alloc();
     let text = "group 1000\n0 write 1 61\nend\nstat\n";
-    let want = "group 1000: 0 write 1 [97]; stat";
+    let want = "group 1000: 0 write 1 [97]; end. stat. ";
     // Three calls give the text and a fourth its end.
     let rows = [
         (1, "SourceFault"),

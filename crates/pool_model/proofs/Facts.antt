@@ -4,7 +4,7 @@ use Rattle.std.specs.Option.{option_map_or}
 use Rattle.std.proofs.Common.{refl, ap, inl, inr, rules, arith}
 use Rattle.pool_model.proofs.OnLiterals.{pool_on_literals}
 use Rattle.ddt_entry.specs.declared.entry.Home.{Home}
-use Rattle.pool_model.specs.WorkedFacts.{RefusedFiles, EdgeFile, Limits, Digests, Needs, Premise, HoldTogether, Counted, one_key, entry}
+use Rattle.pool_model.specs.WorkedFacts.{RefusedFiles, EdgeFile, ReadFiles, Limits, Digests, Needs, Premise, HoldTogether, Counted, one_key, entry}
 
 pub refused_files : RefusedFiles
 unfolding pool_on_literals
@@ -14,8 +14,13 @@ pub edge_file : EdgeFile
 unfolding pool_on_literals
 edge_file = refl
 
+pub read_files : ReadFiles
+unfolding pool_on_literals
+read_files = record { empty = refl; asks = refl; imports = refl; no_write = refl; several = refl }
+
 pub limits : Limits
-limits = record { longest_file = refl; sixteen = refl; powers = refl; block = refl; longer = refl; writes = refl; one_more = refl }
+unfolding pool_on_literals
+limits = record { longest_file = refl; sixteen = refl; powers = refl; block = refl; longer = refl; writes = refl; one_more = refl; items = refl; one_item_more = refl }
 
 pub digests : Digests
 unfolding pool_on_literals

@@ -1,6 +1,6 @@
 -- The command file: which items its bytes are.
--- For now it is one group of writes of lane 0 and one `stat`, each line ended by LF.
-use Rattle.std.specs.Prelude.{ℕ, ◌^◌, Bool, false, not, ◌&&◌, ◌||◌, ◌==◌, nat_lt, nat_le, List, [], ◌∷◌, length, codes, Option, Some, None, Result, Ok, Err, if◌then◌else◌}
+-- For now these are groups of writes of lane 0, `stat` and `import`, on lines that LF ends each.
+use Rattle.std.specs.Prelude.{ℕ, ◌^◌, Bool, false, not, ◌&&◌, ◌||◌, ◌==◌, nat_lt, nat_le, List, [], ◌∷◌, ◌++◌, length, codes, Option, Some, None, Result, Ok, Err, if◌then◌else◌}
 use Rattle.std.specs.List.{list_all, slice_split}
 use Rattle.std.specs.Str.{bytes_eq}
 use Rattle.std.specs.Str.Parse.{digits_value}
@@ -8,16 +8,19 @@ use Rattle.hex.specs.Hex.{decode_of}
 use Rattle.hex.specs.declared.FromHexError.{FromHexError}
 use Rattle.pool_model.specs.declared.notes.BadKind.{BadKind}
 use Rattle.pool_model.specs.declared.notes.BadKind.TheVariants.{Form}
-use Rattle.pool_model.specs.Plain.{Task, write, Part, lanes, stat}
+use Rattle.pool_model.specs.Plain.{Task, write, Part, lanes, stat, «import»}
 
 -- the first bad line, counted from 1 (0 for the file as a whole), and what is wrong with it
 pub record Bad : Type 0 where
   pub line : ℕ
   pub kind : BadKind
 
--- at most so many bytes in a file, so many commands in a group, and so many bytes in a block
+-- at most so many bytes in a file, so many items, so many commands in a group, and so many bytes in a block
 abbrev pub file_limit : ℕ
 file_limit = 1048576
+
+abbrev pub item_limit : ℕ
+item_limit = 10000
 
 abbrev pub command_limit : ℕ
 command_limit = 1000
@@ -82,28 +85,68 @@ task_in_words words = None
 abbrev pub task_in : (line : List ℕ) → Option Task
 task_in line = task_in_words (slice_split is_space line)
 
--- nothing behind `stat` and its LF
-abbrev pub is_end : (lines : List (List ℕ)) → Bool
-is_end (verb ∷ [] ∷ []) = bytes_eq verb (codes "stat")
-is_end lines = false
+-- a group of which `end` was not read yet
+pub record OpenGroup : Type 0 where
+  pub moment : ℕ
+  pub tasks : List Task
 
-abbrev pub with_task : Option Task → Option (List Task) → Option (List Task)
-with_task (Some task) (Some tasks) = Some (task ∷ tasks)
-with_task task tasks = None
+-- what was read so far: the items that ended, in order, and the group that is open, if one is
+pub record Progress : Type 0 where
+  pub parts : List Part
+  pub group : Option OpenGroup
 
--- the writes up to `end`, behind which `stat` and nothing else stands
-abbrev pub tasks_in : (lines : List (List ℕ)) → Option (List Task)
-tasks_in [] = None
-tasks_in (line ∷ lines) = if bytes_eq line (codes "end") then (if is_end lines then Some [] else None) else with_task (task_in line) (tasks_in lines)
+-- nothing was read yet
+abbrev pub first_progress : Progress
+first_progress = record { parts = []; group = None }
 
-abbrev pub lawful_parts : (moment : Option ℕ) → (tasks : Option (List Task)) → Option (List Part)
-lawful_parts (Some moment) (Some tasks) =
-    if nat_lt 0 (length tasks) && nat_le (length tasks) command_limit then Some (lanes moment tasks ∷ stat ∷ []) else None
-lawful_parts moment tasks = None
+-- a further item ended
+abbrev pub with_part : (parts : List Part) → Part → Progress
+with_part parts part = record { parts = parts ++ part ∷ []; group = None }
 
-abbrev pub parts_in : (lines : List (List ℕ)) → Option (List Part)
-parts_in [] = None
-parts_in (line ∷ lines) = lawful_parts (moment_in line) (tasks_in lines)
+-- a group begins, where its line has a moment
+abbrev pub with_group : (parts : List Part) → (moment : Option ℕ) → Option Progress
+with_group parts None = None
+with_group parts (Some moment) = Some (record { parts = parts; group = Some (record { moment = moment; tasks = [] }) })
+
+-- the open group has a further command, where the line is one
+abbrev pub with_task : (parts : List Part) → OpenGroup → Option Task → Option Progress
+with_task parts group None = None
+with_task parts group (Some task) = Some (record { parts = parts; group = Some (record { moment = group.moment; tasks = group.tasks ++ task ∷ [] }) })
+
+-- the line is an item, or begins one
+abbrev pub read_item : (parts : List Part) → (line : List ℕ) → Option Progress
+read_item parts line =
+    if bytes_eq line (codes "stat") then Some (with_part parts stat)
+    else if bytes_eq line (codes "import") then Some (with_part parts «import»)
+    else with_group parts (moment_in line)
+
+-- the line is a command of the open group, or its end
+abbrev pub read_command : (parts : List Part) → OpenGroup → (line : List ℕ) → Option Progress
+read_command parts group line =
+    if bytes_eq line (codes "end") then Some (with_part parts (lanes group.moment group.tasks))
+    else if nat_lt (length group.tasks) command_limit then with_task parts group (task_in line)
+    else None
+
+-- where no group is open the line begins an item, of which there is room for one more
+abbrev pub read_behind : (parts : List Part) → (group : Option OpenGroup) → (line : List ℕ) → Option Progress
+read_behind parts None line = if nat_lt (length parts) item_limit then read_item parts line else None
+read_behind parts (Some group) line = read_command parts group line
+
+-- what is read with this line behind the others, or none where it may not stand there
+abbrev pub read_line : Progress → (line : List ℕ) → Option Progress
+read_line progress line = read_behind progress.parts progress.group line
+
+-- the items of a file that ends here: no group is open, and nothing stands behind the last LF
+abbrev pub ended : (parts : List Part) → (group : Option OpenGroup) → (behind : List ℕ) → Option (List Part)
+ended parts None [] = Some parts
+ended parts group behind = None
+
+-- the items of a file of which so much was read, and these lines are left; the last is what stands behind the last LF
+abbrev pub parts_in : Option Progress → (lines : List (List ℕ)) → Option (List Part)
+parts_in None lines = None
+parts_in (Some progress) [] = None
+parts_in (Some progress) (behind ∷ []) = ended progress.parts progress.group behind
+parts_in (Some progress) (line ∷ next ∷ lines) = parts_in (read_line progress line) (next ∷ lines)
 
 -- until lines are judged one by one, a bad file is bad as a whole
 abbrev pub or_bad : Option (List Part) → Result (List Part) Bad
@@ -112,4 +155,4 @@ or_bad (Some parts) = Ok parts
 
 -- the items of a command file, or what is bad in it
 abbrev pub file_of : (bytes : List ℕ) → Result (List Part) Bad
-file_of bytes = if nat_lt file_limit (length bytes) then or_bad None else or_bad (parts_in (slice_split is_line_feed bytes))
+file_of bytes = if nat_lt file_limit (length bytes) then or_bad None else or_bad (parts_in (Some first_progress) (slice_split is_line_feed bytes))

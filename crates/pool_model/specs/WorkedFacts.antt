@@ -1,5 +1,5 @@
 -- Worked examples beside the runs: files that are refused, digests, room, the premise on digests, and pools that hold together.
-use Rattle.std.specs.Prelude.{◌≡◌, ℕ, ◌^◌, List, [], ◌∷◌, ◌++◌, length, replicate, codes, Ok, Err, Some, None, ◌==◌, if◌then◌else◌}
+use Rattle.std.specs.Prelude.{◌≡◌, ℕ, ◌^◌, List, [], ◌∷◌, ◌++◌, length, replicate, codes, Option, Ok, Err, Some, None, ◌==◌, if◌then◌else◌}
 use Rattle.std.specs.List.{AllByRecursion}
 use Rattle.hex.specs.Hex.{encode_lower}
 use Rattle.sha2.specs.Sha256.{sha256}
@@ -12,20 +12,21 @@ use Rattle.pool_model.specs.declared.notes.BadKind.TheVariants.{Form}
 use Rattle.pool_model.specs.Pool.{Pool, Pointer, Mark, plain, tracked, loose, empty_pool, IsWellFormed}
 use Rattle.pool_model.specs.Stats.{stats_of}
 use Rattle.pool_model.specs.Table.{empty_table, Matches}
-use Rattle.pool_model.specs.Plain.{Part, Told, write, read, free, lanes, set_mode, stat, to_write}
+use Rattle.pool_model.specs.Plain.{Task, Part, Told, write, read, free, lanes, set_mode, stat, «import», to_write}
 use Rattle.pool_model.specs.Space.{need, writes_in, changes_in}
 use Rattle.pool_model.specs.Group.{Standing, lane_by_lane}
 use Rattle.pool_model.specs.Run.{Ended, ended_items, first_standing}
 use Rattle.pool_model.specs.Clash.{NoClash}
-use Rattle.pool_model.specs.File.{file_limit, file_of, lawful_block, lawful_parts}
+use Rattle.pool_model.specs.File.{OpenGroup, file_limit, file_of, lawful_block, read_behind}
 use Rattle.pool_model.specs.Worked.{a, b, c, task, new, hit, lane_note, group_note, settings_note}
 use Rattle.pool_model.specs.WorkedTurns.{spoilt}
 
--- files that say something else than a group of writes and a `stat`: empty, without the last line feed, with CR, in capitals,
--- with another letter, with another digit, with an odd digit, out of a range, with a number that begins with 0, with another first line, without a write, without `end`, with more behind, of another lane
+-- files that aren't of the form: without the last line feed, with CR, in capitals, with another letter, with another digit, with an odd digit,
+-- without a digit, out of a range, with a number that begins with 0, with other words, with a line too many, of another lane, with two spaces,
+-- with a group that isn't ended or that stands in another, with an `end` or a write and no group, and with an empty line
 abbrev pub refused_files : List (List ℕ)
 refused_files =
-    [] ∷ codes "group 1000\n0 write 1 61\nend\nstat"
+    codes "group 1000\n0 write 1 61\nend\nstat"
     ∷ codes "group 1000\r\n0 write 1 61\r\nend\r\nstat\r\n"
     ∷ codes "group 1000\n0 write 1 6A\nend\nstat\n"
     ∷ codes "group 1000\n0 write 1 6g\nend\nstat\n"
@@ -40,13 +41,18 @@ refused_files =
     ∷ codes "groups 1000\n0 write 1 61\nend\nstat\n"
     ∷ codes "group\n0 write 1 61\nend\nstat\n"
     ∷ codes "group 1000 1000\n0 write 1 61\nend\nstat\n"
-    ∷ codes "group 1000\nend\nstat\n"
     ∷ codes "group 1000\n0 write 1 61\nstat\n"
     ∷ codes "group 1000\n0 write 1 61\nend\nstat\n\n"
-    ∷ codes "group 1000\n0 write 1 61\nend\nstat\nstat\n"
-    ∷ codes "group 1000\n0 write 1 61\nend\n"
     ∷ codes "group 1000\n1 write 1 61\nend\nstat\n"
     ∷ codes "group 1000\n0  write 1 61\nend\nstat\n"
+    ∷ codes "group 1000\n0 write 1 61\n"
+    ∷ codes "group 1000\n"
+    ∷ codes "group 1000\ngroup 1000\nend\nend\n"
+    ∷ codes "group 1000\nend\nend\n"
+    ∷ codes "end\n"
+    ∷ codes "stat\n0 write 1 61\n"
+    ∷ codes "stat\nimports\n"
+    ∷ codes "\n"
     ∷ []
 
 abbrev pub RefusedFiles : Type 0
@@ -57,15 +63,30 @@ abbrev pub EdgeFile : Type 0
 EdgeFile = file_of (codes "group 1099511627775\n0 write 65535 00ff\n0 write 0 a9\nend\nstat\n")
     ≡ Ok (lanes 1099511627775 (task 0 65535 (write (0 ∷ 255 ∷ [])) ∷ task 0 0 (write (169 ∷ [])) ∷ []) ∷ stat ∷ [])
 
--- the longest file, how many lanes and buckets there are, the longest block and one longer, the most writes and one more
+-- files of no item, of one, and of several, an empty group among them
+pub record ReadFiles : Type 0 where
+  pub empty : file_of [] ≡ Ok []
+  pub asks : file_of (codes "stat\n") ≡ Ok (stat ∷ [])
+  pub imports : file_of (codes "import\n") ≡ Ok («import» ∷ [])
+  pub no_write : file_of (codes "group 5\nend\n") ≡ Ok (lanes 5 [] ∷ [])
+  pub several : file_of (codes "stat\ngroup 9\n0 write 2 61\n0 write 1 62\nend\nimport\ngroup 8\n0 write 3 63\nend\n")
+      ≡ Ok (stat ∷ lanes 9 (task 0 2 (write a) ∷ task 0 1 (write b) ∷ []) ∷ «import» ∷ lanes 8 (task 0 3 (write c) ∷ []) ∷ [])
+
+-- a group at moment 0 whose `end` was not read yet
+abbrev pub open_group : (tasks : List Task) → Option OpenGroup
+open_group tasks = Some (record { moment = 0; tasks = tasks })
+
+-- the longest file, how many lanes and buckets there are, the longest block and one longer, the most writes and one more, the most items and one more
 pub record Limits : Type 0 where
   pub longest_file : file_limit ≡ 2 ^ 20
   pub sixteen : length empty_pool.modes ≡ 16
   pub powers : length (stats_of empty_pool).buckets ≡ 21
   pub block : lawful_block (Ok (replicate 4096 97)) ≡ Some (replicate 4096 97)
   pub longer : lawful_block (Ok (replicate 4097 97)) ≡ None
-  pub writes : lawful_parts (Some 0) (Some (replicate 1000 (task 0 1 (write a)))) ≡ Some (lanes 0 (replicate 1000 (task 0 1 (write a))) ∷ stat ∷ [])
-  pub one_more : lawful_parts (Some 0) (Some (replicate 1001 (task 0 1 (write a)))) ≡ None
+  pub writes : read_behind [] (open_group (replicate 999 (task 0 1 (write a)))) (codes "0 write 1 61") ≡ Some (record { parts = []; group = open_group (replicate 1000 (task 0 1 (write a))) })
+  pub one_more : read_behind [] (open_group (replicate 1000 (task 0 1 (write a)))) (codes "0 write 1 61") ≡ None
+  pub items : read_behind (replicate 9999 stat) None (codes "stat") ≡ Some (record { parts = replicate 10000 stat; group = None })
+  pub one_item_more : read_behind (replicate 10000 stat) None (codes "stat") ≡ None
 
 -- published digests
 pub record Digests : Type 0 where

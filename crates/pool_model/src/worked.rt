@@ -1,7 +1,7 @@
 ghost use Rattle.pool_model.specs.WorkedRuns.{OneWrite, SharedWrite, TakenSlot, FullQuota, RoomAgain, PrunedByAge, LoosePointer, PrunedByShare, VerifiedBytes, EmptySlot, MixedLanes};
 ghost use Rattle.pool_model.specs.WorkedTurns.{WaitingHome, TwoLanes, FailedReads, SpoiltBlock, NoRoom};
 ghost use Rattle.pool_model.specs.WorkedTables.{OneChange, SwapByAge, Flushed, GoneKey, FlushedInParts, LimitBefore, SwapWaits, SwapByKeys, LongFlush};
-ghost use Rattle.pool_model.specs.WorkedFacts.{RefusedFiles, EdgeFile, Limits, Digests, Needs, Premise, HoldTogether, Counted};
+ghost use Rattle.pool_model.specs.WorkedFacts.{RefusedFiles, EdgeFile, ReadFiles, Limits, Digests, Needs, Premise, HoldTogether, Counted};
 ghost use Rattle.pool_model.specs.WorkedLeft.{LaterHit, TakenUp, NewMoment, NoChange, QuotaFirst, OffLane, OtherLaneOff, ReadsNothing, WaitsAgain, BytesKept, OldestFirst, PlainStays, QuotaByKeys, CutBlock, Ordered, FreePlaces, OtherNotes};
 
 /// Worked runs: for each the items, the notes that a session makes of them, and the bytes of the report.
@@ -60,11 +60,12 @@ pub fn worked_tables()
     ensures long_flush { LongFlush }
 {}
 
-/// Worked facts beside the runs: which files are refused, digests, room, the premise on digests, and which
+/// Worked facts beside the runs: which files are read and refused, digests, room, the premise on digests, and which
 /// pools and tables hold together.
 pub fn worked_facts()
     ensures refused_files { RefusedFiles }
     ensures edge_file { EdgeFile }
+    ensures read_files { ReadFiles }
     ensures limits { Limits }
     ensures digests { Digests }
     ensures needs { Needs }

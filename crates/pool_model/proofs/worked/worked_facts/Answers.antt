@@ -1,10 +1,11 @@
-use Rattle.pool_model.proofs.Facts.{refused_files, edge_file, limits, digests, needs, premise, hold_together, counted}
+use Rattle.pool_model.proofs.Facts.{refused_files, edge_file, read_files, limits, digests, needs, premise, hold_together, counted}
 use Rattle.pool_model.proofs.worked.worked_facts.Goals as goal
 
 pub returns : goal.returns
 returns c = record {
   refused_files = refused_files;
   edge_file = edge_file;
+  read_files = read_files;
   limits = limits;
   digests = digests;
   needs = needs;
