@@ -4,7 +4,7 @@ use Rattle.std.specs.Fmt.{decimal}
 use Rattle.pool_model.specs.declared.notes.BadKind.{BadKind}
 use Rattle.pool_model.specs.declared.notes.BadKind.TheVariants.{Size, Form, Range, Many, Open}
 use Rattle.session.specs.declared.status.Status.{Status}
-use Rattle.session.specs.declared.status.Status.TheVariants.{Done, Usage, BadFile, SourceFault, SinkFault, OutOfMemory}
+use Rattle.session.specs.declared.status.Status.TheVariants.{Done, Usage, BadFile, SourceFault, SinkFault, ReadFault, WriteFault, NoPool, Damaged, OutOfMemory, PoolExists, BadSize, LastGroup}
 
 abbrev pub code_of : Status → ℕ
 code_of Done = 0
@@ -12,7 +12,14 @@ code_of Usage = 1
 code_of (BadFile line kind) = 2
 code_of SourceFault = 3
 code_of SinkFault = 4
+code_of ReadFault = 5
+code_of WriteFault = 6
+code_of NoPool = 7
+code_of (Damaged sector) = 8
 code_of OutOfMemory = 9
+code_of (PoolExists group) = 10
+code_of (BadSize sectors) = 11
+code_of (LastGroup group) = 13
 
 abbrev pub kind_name : BadKind → List ℕ
 kind_name Size = codes "size"
@@ -27,4 +34,11 @@ fault_text Usage = codes "usage"
 fault_text (BadFile line kind) = codes "bad file: line " ++ decimal line ++ codes ": " ++ kind_name kind
 fault_text SourceFault = codes "source fault"
 fault_text SinkFault = codes "sink fault"
+fault_text ReadFault = codes "read fault"
+fault_text WriteFault = codes "write fault"
+fault_text NoPool = codes "no pool"
+fault_text (Damaged sector) = codes "damaged sector " ++ decimal sector
 fault_text OutOfMemory = codes "out of memory"
+fault_text (PoolExists group) = codes "pool exists: group " ++ decimal group
+fault_text (BadSize sectors) = codes "bad size: " ++ decimal sectors
+fault_text (LastGroup group) = codes "last group: " ++ decimal group

@@ -1,94 +1,164 @@
--- What a session's status says: of the input, of the session's notes, and of what was written.
-use Rattle.std.specs.Prelude.{◌≡◌, ℕ, List, [], ◌∷◌, ◌++◌, map, codes, Option, None, Ok, Err, ⊤}
+-- What a session that runs a command file comes to: of the input, of the session's notes, of what was written, of the disk.
+use Rattle.std.specs.Prelude.{◌≡◌, ◌⊎◌, ◌≤◌, ◌<◌, ◌+◌, ◌-◌, ◌^◌, ℕ, ⊤, min, List, [], ◌∷◌, ◌++◌, length, map, take, sum_by, Option, Some, None, Ok, Err}
 use Rattle.std.specs.Io.KnownBytes.{Keeps, Appends}
-use Rattle.std.specs.List.{AllByRecursion}
-use Rattle.io_model.specs.Outside.{Rose, HasRead, TookFront}
+use Rattle.io_model.specs.Outside.{Rose, HasRead}
 use Rattle.cmd_file.specs.Reading.{IsReadOut}
+use Rattle.disk_model.specs.Images.{Image}
+use Rattle.disk_model.specs.Crashes.{NothingPending}
 use Rattle.ddt_entry.specs.declared.key.Key.{Key}
 use Rattle.pool_model.specs.declared.notes.Session.{Session}
-use Rattle.pool_model.specs.declared.stats.Stats.{Stats}
-use Rattle.pool_model.specs.Pool.{Pool}
-use Rattle.pool_model.specs.Stats.{stats_of}
 use Rattle.pool_model.specs.Plain.{Part, Told, told_of}
-use Rattle.pool_model.specs.Group.{lane_by_lane, IsUnnamed}
-use Rattle.pool_model.specs.Run.{always_sealed, Ended, ended_items, last_standing, NotesRun, first_standing}
+use Rattle.pool_model.specs.Clash.{NoClash}
+use Rattle.pool_model.specs.Group.{Standing, lane_by_lane}
+use Rattle.pool_model.specs.Run.{Ended, kind_of, ended_items, last_standing, NotesRun, first_standing}
+use Rattle.pool_model.specs.Crash.{begun}
 use Rattle.pool_model.specs.Text.{report}
 use Rattle.pool_model.specs.File.{file_of}
-use Rattle.report.specs.ItemText.{text_of}
+use Rattle.uber_ring.specs.Ring.{newest}
+use Rattle.uber_ring.specs.declared.seal.Seal.{Seal}
+use Rattle.table_state.specs.Flat.{HasNoPool, IsDamaged, flat_version}
+use Rattle.session.specs.Crashing.{Holds, Crashes}
+use Rattle.session.specs.Entries.{BeginsAt, IsLawfulSize, last_start}
+use Rattle.session.specs.Items.{room_from, IsLastNote, is_write_fault}
 use Rattle.session.specs.declared.status.Status.{Status}
-use Rattle.session.specs.declared.status.Status.TheVariants.{Done, Usage, BadFile, SourceFault, SinkFault, OutOfMemory}
+use Rattle.session.specs.declared.status.Status.TheVariants.{Done, Usage, BadFile, SourceFault, SinkFault, ReadFault, WriteFault, NoPool, Damaged, OutOfMemory, PoolExists, BadSize, LastGroup}
+use Rattle.session.specs.declared.words.Word.{Word}
+use Rattle.session.specs.declared.words.Word.TheVariants.{Run, Make}
 
 -- the session's notes, seen plainly
 abbrev pub told_in : Session → List Told
 told_in session = map told_of session.groups.items
 
--- the items, with what stood after each, over the empty pool of a new image
-abbrev pub ended_in : (List ℕ → Key) → List Part → Session → List Ended
-ended_in key_of parts session = ended_items lane_by_lane key_of parts (told_in session) first_standing
+-- the items that ended, with what stood after each, from this standing on
+abbrev pub ended_in : (List ℕ → Key) → Standing → List Part → Session → List Ended
+ended_in key_of s parts session = ended_items lane_by_lane key_of parts (told_in session) s
 
 -- a session that did nothing
 pub record IsUntouched (session : Session) : Type 0 where
   pub groups : session.groups.items ≡ []
   pub sealed : session.sealed ≡ 0
 
--- no device is read yet, so no read failed
-abbrev pub IsFaultless : Told → Type 0
-IsFaultless told = AllByRecursion (λ lane. lane.faults ≡ 0) told.lanes
+-- the first text was written whole, and some front of the next one
+abbrev pub TookFrontBehind : (old new : Option (List ℕ)) → (whole next : List ℕ) → Type 0
+TookFrontBehind old new whole next = (n : ℕ) × (n ≤ length next) × Appends old new (whole ++ take n next)
 
--- a session that ran these items: its notes are those of a run, and its group is the last pool's
-pub record HasRun (key_of : List ℕ → Key) (parts : List Part) (session : Session) : Type 0 where
-  pub notes : NotesRun lane_by_lane (always_sealed IsUnnamed) key_of parts (told_in session) first_standing
-  pub faultless : AllByRecursion IsFaultless (told_in session)
-  pub sealed : session.sealed ≡ (last_standing first_standing (ended_in key_of parts session)).pool.group
+-- told contents that are a standing's, with nothing pending
+pub record IsKept (seen : Option Image) (may_leave : Image → Type 0) (tag : ℕ) (s : Standing) : Type 0 where
+  pub image : Image
+  pub told : seen ≡ Some image
+  pub quiet : NothingPending (Some image) may_leave
+  pub holds : Holds tag image s
 
--- the file was read to its end, its items were run, and this is their report
-pub record HasReported (key_of : List ℕ → Key) (left rest : Option (List ℕ)) (session : Session) (bytes : List ℕ) (parts : List Part) (text : List ℕ) : Type 0 where
+-- all items were done: the notes are those of a run, the report is that run's, and its last pool is on the disk
+pub record HasDone (seen : Option Image) (may_leave : Image → Type 0) (key_of : List ℕ → Key) (tag : ℕ) (s : Standing) (sectors pages : ℕ) (parts : List Part) (session : Session) (old new : Option (List ℕ)) : Type 0 where
+  pub notes : NotesRun lane_by_lane (room_from sectors s.pool.group pages) key_of parts (told_in session) s
+  pub text : Appends old new (report (ended_in key_of s parts session))
+  pub sealed : session.sealed ≡ (last_standing s (ended_in key_of s parts session)).pool.group
+  pub disk : IsKept seen may_leave tag (last_standing s (ended_in key_of s parts session))
+
+-- the session ended in some item: the ones before it are as in a run, with their texts, and of its own text a front was written
+pub record HasStopped (key_of : List ℕ → Key) (s : Standing) (sectors pages : ℕ) (parts : List Part) (session : Session) (old new : Option (List ℕ)) : Type 0 where
+  pub finished : List Part
+  pub item : Part
+  pub rest : List Part
+  pub parts_are : parts ≡ finished ++ item ∷ rest
+  pub notes : List Told
+  pub last : List Told
+  pub notes_are : told_in session ≡ notes ++ last
+  pub run : NotesRun lane_by_lane (room_from sectors s.pool.group pages) key_of finished notes s
+  pub last_note : IsLastNote (kind_of item) (room_from sectors s.pool.group pages) key_of (last_standing s (ended_items lane_by_lane key_of finished notes s)) item last
+  pub text : TookFrontBehind old new (report (ended_items lane_by_lane key_of finished notes s))
+      (report (ended_items lane_by_lane key_of (item ∷ []) last (last_standing s (ended_items lane_by_lane key_of finished notes s))))
+
+-- what a session that began its items has done, by its status; no other status comes then
+abbrev pub WentOn : Status → (done stopped : Type 0) → Type 0
+WentOn Done done stopped = done
+WentOn SinkFault done stopped = stopped
+WentOn ReadFault done stopped = stopped
+WentOn WriteFault done stopped = stopped
+WentOn OutOfMemory done stopped = stopped
+WentOn (BadFile line kind) done stopped = ⊥
+WentOn SourceFault done stopped = ⊥
+WentOn Usage done stopped = ⊥
+WentOn NoPool done stopped = ⊥
+WentOn (Damaged sector) done stopped = ⊥
+WentOn (PoolExists group) done stopped = ⊥
+WentOn (BadSize sectors) done stopped = ⊥
+WentOn (LastGroup group) done stopped = ⊥
+
+-- whether a session may end so before its items
+abbrev pub IsEarly : Status → Type 0
+IsEarly Done = ⊥
+IsEarly SinkFault = ⊥
+IsEarly _ = ⊤
+
+-- the file was read to its end, its items begin at this standing, and, where no two contents clash, they went as in a run, whatever a crash does
+pub record HasBegun {D : Type 0} (clock : D → ℕ) (left_since : D → ℕ → Image → Type 0) (may_leave : D → Image → Type 0) (seen : D → Option Image) (before after : D)
+    (word : Word) (tag : ℕ) (image : Image) (key_of : List ℕ → Key) (left rest : Option (List ℕ)) (session : Session) (old new : Option (List ℕ)) (status : Status) : Type 0 where
+  pub bytes : List ℕ
+  pub parts : List Part
   pub read : HasRead left rest bytes
   pub file : file_of bytes ≡ Ok parts
-  pub run : HasRun key_of parts session
-  pub text_is : text ≡ report (ended_in key_of parts session)
+  pub s : Standing
+  pub sectors : ℕ
+  pub pages : ℕ
+  pub begins : BeginsAt word tag image s sectors pages
+  pub ended : WentOn status ⊤ ⊤
+  pub crash : NoClash key_of s parts (ended_in key_of s parts session)
+      → Crashes clock left_since may_leave before after tag image (s ∷ begun lane_by_lane key_of parts (told_in session) s) (is_write_fault status) session.sealed
+  pub went : NoClash key_of s parts (ended_in key_of s parts session)
+      → WentOn status (HasDone (seen after) (may_leave after) key_of tag s sectors pages parts session old new) (HasStopped key_of s sectors pages parts session old new)
 
--- what a session's answer says
-abbrev pub Ran : (List ℕ → Key) → (left rest : Option (List ℕ)) (read_before read_now : ℕ) → Session → (old new : Option (List ℕ)) (before now : ℕ) → Status → Type 0
-Ran key_of left rest read_before read_now session old new before now Done =
-    (bytes : List ℕ) × (parts : List Part) × (text : List ℕ) × HasReported key_of left rest session bytes parts text × Appends old new text
-Ran key_of left rest read_before read_now session old new before now SinkFault =
-    (bytes : List ℕ) × (parts : List Part) × (text : List ℕ) × HasReported key_of left rest session bytes parts text × TookFront old new text × Rose before now
-Ran key_of left rest read_before read_now session old new before now (BadFile line kind) =
-    (bytes : List ℕ) × IsReadOut left rest bytes × (file_of bytes ≡ Err (record { line = line; kind = kind })) × IsUntouched session × Keeps old new
-Ran key_of left rest read_before read_now session old new before now SourceFault = Rose read_before read_now × IsUntouched session × Keeps old new
-Ran key_of left rest read_before read_now session old new before now Usage = Keeps left rest × IsUntouched session × Keeps old new
-Ran key_of left rest read_before read_now session old new before now OutOfMemory = IsUntouched session × Keeps old new
+-- a pool that the image stands for, or the new pool that is made where there is none
+abbrev pub MayStand : Word → (tag : ℕ) → Image → Standing → Type 0
+MayStand Run tag image s = Holds tag image s
+MayStand Make tag image s = HasNoPool image × IsLawfulSize (length image) × (s ≡ first_standing)
 
--- the words that a session answers to
-abbrev pub session_words : List (List ℕ)
-session_words = codes "make" ∷ []
+-- no item was begun: nothing is noted or written, and a crash leaves what stood, or the new pool
+pub record HasNotBegun {D : Type 0} (clock : D → ℕ) (left_since : D → ℕ → Image → Type 0) (may_leave : D → Image → Type 0) (before after : D)
+    (word : Word) (tag : ℕ) (image : Image) (session : Session) (old new : Option (List ℕ)) (status : Status) : Type 0 where
+  pub groups : session.groups.items ≡ []
+  pub unwritten : Keeps old new
+  pub early : IsEarly status
+  pub stands : List Standing
+  pub may_stand : (stands ≡ []) ⊎ ((s : Standing) × (stands ≡ s ∷ []) × MayStand word tag image s)
+  pub crash : Crashes clock left_since may_leave before after tag image stands (is_write_fault status) session.sealed
 
--- a session that ended so before its report was begun leaves its output alone
-abbrev pub BeforeReport : Status → Type 0 → Type 0
-BeforeReport Done untouched = ⊤
-BeforeReport SinkFault untouched = ⊤
-BeforeReport (BadFile line kind) untouched = untouched
-BeforeReport SourceFault untouched = untouched
-BeforeReport Usage untouched = untouched
-BeforeReport OutOfMemory untouched = untouched
+-- what a status says of the command file
+abbrev pub ReadSo : Status → (left rest : Option (List ℕ)) → (before now : ℕ) → Type 0
+ReadSo (BadFile line kind) left rest before now = (bytes : List ℕ) × IsReadOut left rest bytes × (file_of bytes ≡ Err (record { line = line; kind = kind }))
+ReadSo SourceFault left rest before now = Rose before now
+ReadSo _ left rest before now = ⊤
 
--- the items were run, with this pool at the end, whose statistics these are
-pub record HasPrepared (key_of : List ℕ → Key) (parts : List Part) (session : Session) (pool : Pool) (stats : Stats) : Type 0 where
-  pub run : HasRun key_of parts session
-  pub pool_is : pool ≡ (last_standing first_standing (ended_in key_of parts session)).pool
-  pub stats_are : stats ≡ stats_of pool
+-- a session that ended so has called no device: the disk, the output and the session are as they were
+abbrev pub BeforeDevices : Status → Type 0 → Type 0
+BeforeDevices Usage untouched = untouched
+BeforeDevices (BadFile line kind) untouched = untouched
+BeforeDevices SourceFault untouched = untouched
+BeforeDevices (BadSize sectors) untouched = untouched
+BeforeDevices _ untouched = ⊤
 
--- the report of a group and of the `stat` behind it, by the group's note and by the pool at the end
-abbrev pub first_report : List Part → (told : Option Told) → Pool → Stats → List ℕ
-first_report (group ∷ last ∷ []) told pool stats = text_of group told stats pool.group pool.quota ++ text_of last None stats pool.group pool.quota
-first_report parts told pool stats = []
+-- a count that rose by more than so many faults
+abbrev pub RoseBeyond : (faults before now : ℕ) → Type 0
+RoseBeyond faults before now = min (before + faults + 1) (2 ^ 64 - 1) ≤ now
 
--- what a session that had its file answers, over the items of the file
-abbrev pub Answered : (List ℕ → Key) → List Part → Session → (old new : Option (List ℕ)) (before now : ℕ) → Status → Type 0
-Answered key_of parts session old new before now Done = HasRun key_of parts session × Appends old new (report (ended_in key_of parts session))
-Answered key_of parts session old new before now SinkFault = HasRun key_of parts session × TookFront old new (report (ended_in key_of parts session)) × Rose before now
-Answered key_of parts session old new before now OutOfMemory = IsUntouched session × Keeps old new
-Answered key_of parts session old new before now (BadFile line kind) = ⊥
-Answered key_of parts session old new before now SourceFault = ⊥
-Answered key_of parts session old new before now Usage = ⊥
+-- the faults that a session's lanes had
+abbrev pub faults_in : Session → ℕ
+faults_in session = sum_by (λ told. sum_by (λ lane. lane.faults) told.lanes) (told_in session)
+
+-- a seal of this group counts
+abbrev pub HasNewest : (group : ℕ) → Image → Type 0
+HasNewest group image = (seal : Seal) × (newest flat_version image ≡ Some seal) × (seal.group ≡ group)
+
+-- why a session ended so: by the counts of the disk and of the output, and by what the disk tells
+abbrev pub HasStatusCause : Status → Word → (tag sectors : ℕ) → (seen : Option Image) → (reads_before reads_now writes_before writes_now sink_before sink_now faults : ℕ) → Type 0
+HasStatusCause ReadFault word tag sectors seen reads_before reads_now writes_before writes_now sink_before sink_now faults = RoseBeyond faults reads_before reads_now
+HasStatusCause WriteFault word tag sectors seen reads_before reads_now writes_before writes_now sink_before sink_now faults = Rose writes_before writes_now
+HasStatusCause SinkFault word tag sectors seen reads_before reads_now writes_before writes_now sink_before sink_now faults = Rose sink_before sink_now
+HasStatusCause NoPool word tag sectors (Some image) reads_before reads_now writes_before writes_now sink_before sink_now faults = (word ≡ Run) × HasNoPool image
+HasStatusCause (Damaged sector) word tag sectors (Some image) reads_before reads_now writes_before writes_now sink_before sink_now faults = (word ≡ Run) × IsDamaged tag image
+HasStatusCause (LastGroup group) word tag sectors (Some image) reads_before reads_now writes_before writes_now sink_before sink_now faults =
+    (word ≡ Run) × (last_start < group) × ((s : Standing) × Holds tag image s × (s.pool.group ≡ group))
+HasStatusCause (PoolExists group) word tag sectors (Some image) reads_before reads_now writes_before writes_now sink_before sink_now faults = (word ≡ Make) × HasNewest group image
+HasStatusCause (BadSize n) word tag sectors seen reads_before reads_now writes_before writes_now sink_before sink_now faults = (word ≡ Make) × (n ≡ sectors) × (IsLawfulSize sectors → ⊥)
+HasStatusCause _ word tag sectors seen reads_before reads_now writes_before writes_now sink_before sink_now faults = ⊤

@@ -17,8 +17,22 @@ pub enum Status {
     SourceFault,
     /// The report could not be written.
     SinkFault,
+    /// The disk could not be read.
+    ReadFault,
+    /// A meter, a write or a barrier of the disk failed.
+    WriteFault,
+    /// There is no pool on the disk.
+    NoPool,
+    /// What stands at this sector is not what the image has to have there.
+    Damaged(u64),
     /// There was no memory.
     OutOfMemory,
+    /// There is a pool already, whose newest group has this number.
+    PoolExists(u64),
+    /// The disk has so many sectors, too few or too many for a pool.
+    BadSize(u64),
+    /// The pool's newest group has this number, and too few numbers are left behind it.
+    LastGroup(u64),
 }
 
 impl Status {
@@ -32,7 +46,14 @@ impl Status {
             Status::BadFile { .. } => 2,
             Status::SourceFault => 3,
             Status::SinkFault => 4,
+            Status::ReadFault => 5,
+            Status::WriteFault => 6,
+            Status::NoPool => 7,
+            Status::Damaged(_) => 8,
             Status::OutOfMemory => 9,
+            Status::PoolExists(_) => 10,
+            Status::BadSize(_) => 11,
+            Status::LastGroup(_) => 13,
         }
     }
 }
@@ -48,8 +69,25 @@ pub fn fault_text(alloc: Global, status: &Status) -> Result<String, AllocError>
         Status::BadFile { line, kind } => bad_file_text(alloc, *line, *kind),
         Status::SourceFault => String::from_str(alloc, "source fault"),
         Status::SinkFault => String::from_str(alloc, "sink fault"),
+        Status::ReadFault => String::from_str(alloc, "read fault"),
+        Status::WriteFault => String::from_str(alloc, "write fault"),
+        Status::NoPool => String::from_str(alloc, "no pool"),
+        Status::Damaged(sector) => numbered_text(alloc, "damaged sector ", *sector),
         Status::OutOfMemory => String::from_str(alloc, "out of memory"),
+        Status::PoolExists(group) => numbered_text(alloc, "pool exists: group ", *group),
+        Status::BadSize(sectors) => numbered_text(alloc, "bad size: ", *sectors),
+        Status::LastGroup(group) => numbered_text(alloc, "last group: ", *group),
     }
+}
+
+/// A number behind what it is.
+fn numbered_text(alloc: Global, name: &str, number: u64) -> Result<String, AllocError>
+    ensures { IfOk result (λ text. string_bytes text ≡ name.now ++ decimal number) }
+{
+    let number = number.to_string(alloc)?;
+    let mut text = String::from_str(alloc, name)?;
+    text.push_str(number.as_str())?;
+    Ok(text)
 }
 
 /// Which line of a command file is bad, and why.
