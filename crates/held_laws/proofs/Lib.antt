@@ -1,1 +1,3 @@
+pub mod MarksOf
+pub mod Members
 pub mod SlotsOf

@@ -11,6 +11,8 @@
 //! it shows that what it holds after a group is the group's pool.
 #![tactic(auto)]
 
+mod marks;
 mod slots;
 
+pub use marks::marks_by_the_table;
 pub use slots::{a_change_behind_others, changed_pointers, freed_pointers, slots_are_the_pointers};
