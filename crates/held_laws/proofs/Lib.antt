@@ -1,3 +1,5 @@
+pub mod BlocksOf
 pub mod MarksOf
 pub mod Members
+pub mod Refilled
 pub mod SlotsOf

@@ -12,7 +12,9 @@
 #![tactic(auto)]
 
 mod marks;
+mod pools;
 mod slots;
 
 pub use marks::marks_by_the_table;
+pub use pools::{blocks_stand, pool_is_refilled, refilled_pools};
 pub use slots::{a_change_behind_others, changed_pointers, freed_pointers, slots_are_the_pointers};
