@@ -3,3 +3,4 @@ pub mod MarksOf
 pub mod Members
 pub mod Refilled
 pub mod SlotsOf
+pub mod UnusedOf
