@@ -22,7 +22,7 @@ pub blocks_placed : (contents : List Stored) (image : Image) → Pairwise (λ a 
 blocks_placed [] image apart inside = tt
 blocks_placed (stored ∷ contents) image apart inside = (
   beside_blocks contents (put_block image stored) stored.place (all_from (λ (other : Stored). stored.place ≢ other.place) (λ (other : Stored). other.place ≢ stored.place) (λ other away same. away (sym same)) contents apart.0)
-  ∙ sector_at-set image stored.place (block_sector stored.bytes) inside.0,
+      ∙ sector_at-set image stored.place (block_sector stored.bytes) inside.0,
   blocks_placed contents (put_block image stored) apart.1
       (subst (λ n. AllByRecursion (λ (other : Stored). other.place < n) contents) (sym (length-set image stored.place (block_sector stored.bytes))) inside.1),
 )

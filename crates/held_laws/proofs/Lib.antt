@@ -1,6 +1,7 @@
 pub mod BlocksOf
 pub mod MarksOf
 pub mod Members
+pub mod NamedPages
 pub mod Refilled
 pub mod SlotsOf
 pub mod UnusedOf

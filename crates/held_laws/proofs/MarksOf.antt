@@ -1,5 +1,5 @@
 -- The marks of a pool's pointers are those that a table gives them which counts just the tracked ones.
-use Rattle.std.proofs.Common.{◌≡◌, ℕ, ◌+◌, ◌<◌, ◌≤◌, Bool, true, false, ◌&&◌, ◌==◌, ◌⊎◌, ⊎_elim, inl, List, [], ◌∷◌, length, filter, Option, Some, None, refl, sym, ap, subst, ◌∙◌, eq-eqb, eqb-true, arith}
+use Rattle.std.proofs.Common.{◌≡◌, ℕ, ◌<◌, ◌≤◌, Bool, true, false, ◌&&◌, ◌==◌, ⊎_elim, inl, List, [], ◌∷◌, length, Option, Some, None, refl, sym, ap, subst, ◌∙◌, eq-eqb, eqb-true, arith}
 use Rattle.std.specs.Prelude.{nat_lt, if◌then◌else◌}
 use Rattle.std.specs.List.{AllByRecursion}
 use Rattle.std.proofs.lemmas.Bool.{and_parts, and_from}
@@ -7,7 +7,7 @@ use Rattle.ddt_entry.specs.Keys.{key_eq}
 use Rattle.ddt_entry.specs.declared.key.Key.{Key}
 use Rattle.ddt_entry.specs.declared.entry.Home.{Home}
 use Rattle.ddt_entry.proofs.KeyLaws.{key_eq-same, key_eq-symm}
-use Rattle.pool_model.specs.Pool.{Pool, Pointer, Mark, plain, tracked, loose, IsApart, run_length, is_tracked, since_of, is_shared, tracks, tracked_at, SharesHome, GoTogether, IsWellFormed}
+use Rattle.pool_model.specs.Pool.{Pool, Pointer, Mark, plain, tracked, loose, IsApart, run_length, is_tracked, since_of, tracks, tracked_at, SharesHome, GoTogether, IsWellFormed}
 use Rattle.pool_model.specs.Table.{TableState, found, counted, home_of_pointers}
 use Rattle.table_state.specs.Flat.{mark_by, mark_of}
 use Rattle.table_state.proofs.Lists.{all_from}
@@ -62,9 +62,9 @@ module _ (sectors : ℕ) (pool : Pool) (table : TableState) (well : IsWellFormed
       let parts = and_parts (is_tracked q.mark) (key_eq q.key p.key) same in
       ⊎_elim (λ one. subst (SharesHome p) one (record { place = refl; birth = refl; since = refl }))
       (λ two. ⊎_elim
-        (λ ahead. ahead.one_home (and_from _ _ (and_from _ _ known parts.0) (key_eq-symm p.key q.key ∙ parts.1)))
-        (λ behind. let home = behind.one_home (and_from _ _ (and_from _ _ parts.0 known) parts.1) in record { place = sym home.place; birth = sym home.birth; since = sym home.since })
-        two)
+      (λ ahead. ahead.one_home (and_from _ _ (and_from _ _ known parts.0) (key_eq-symm p.key q.key ∙ parts.1)))
+      (λ behind. let home = behind.one_home (and_from _ _ (and_from _ _ parts.0 known) parts.1) in record { place = sym home.place; birth = sym home.birth; since = sym home.since })
+      two)
       (pair_in GoTogether p q pool.pointers here there well.together)
 
   -- a pointer that isn't tracked has its place for itself
@@ -72,11 +72,11 @@ module _ (sectors : ℕ) (pool : Pool) (table : TableState) (well : IsWellFormed
   differ p q here there unknown known same =
       ⊎_elim (λ one. clash (is_tracked q.mark) known (ap (λ (r : Pointer). is_tracked r.mark) (sym one) ∙ unknown))
       (λ two. ⊎_elim
-        (λ ahead. overlap p.place (run_length p.key) q.place (run_length q.key) same (run_of p here) (run_of q there)
-          (ahead.two_blocks (ap (λ b. (b && is_tracked q.mark) && key_eq p.key q.key) unknown)))
-        (λ behind. overlap q.place (run_length q.key) p.place (run_length p.key) (sym same) (run_of q there) (run_of p here)
-          (behind.two_blocks (ap (λ b. (b && is_tracked p.mark) && key_eq q.key p.key) known ∙ ap (λ b. b && key_eq q.key p.key) unknown)))
-        two)
+      (λ ahead. overlap p.place (run_length p.key) q.place (run_length q.key) same (run_of p here) (run_of q there)
+      (ahead.two_blocks (ap (λ b. (b && is_tracked q.mark) && key_eq p.key q.key) unknown)))
+      (λ behind. overlap q.place (run_length q.key) p.place (run_length p.key) (sym same) (run_of q there) (run_of p here)
+      (behind.two_blocks (ap (λ b. (b && is_tracked p.mark) && key_eq q.key p.key) known ∙ ap (λ b. b && key_eq q.key p.key) unknown)))
+      two)
       (pair_in GoTogether p q pool.pointers here there well.together)
 
   marked_tracked : (p : Pointer) (since : ℕ) → Stands p → p.mark ≡ tracked since → mark_by (found table p.key) p.place p.birth ≡ tracked since

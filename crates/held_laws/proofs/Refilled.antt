@@ -1,12 +1,12 @@
 -- Pointers that are refilled from an image: the pool stays well-formed, the table matches it, and they are what the slots stand for.
-use Rattle.std.proofs.Common.{◌≡◌, ℕ, ◌<◌, Bool, true, false, cond, List, [], ◌∷◌, length, filter, map, take, Option, Some, None, refl, sym, ap, ◌∙◌}
+use Rattle.std.proofs.Common.{◌≡◌, ℕ, ◌<◌, Bool, true, false, cond, List, [], ◌∷◌, filter, map, take, Option, Some, refl, sym, ap, ◌∙◌}
 use Rattle.std.specs.List.{AllByRecursion}
 use Rattle.std.proofs.lemmas.List.{length-map}
 use Rattle.ddt_entry.specs.declared.key.Key.{Key}
 use Rattle.disk_model.specs.Images.{Image, sector_at}
 use Rattle.pool_model.specs.declared.commands.Mode.{Mode}
 use Rattle.pool_model.specs.Plain.{Stored}
-use Rattle.pool_model.specs.Pool.{Pool, Pointer, Mark, is_tracked, since_of, tracks, tracked_at, GoTogether, LiesWithin, IsWellFormed}
+use Rattle.pool_model.specs.Pool.{Pool, Pointer, Mark, since_of, tracks, tracked_at, GoTogether, LiesWithin, IsWellFormed}
 use Rattle.pool_model.specs.Table.{TableState, found, counted, home_of_pointers, IsApartFrom, waiting_in, Matches}
 use Rattle.table_state.specs.Flat.{mark_of, pointer_of}
 use Rattle.table_state.specs.Pools.{with_blocks, pool_after}

@@ -1,8 +1,8 @@
 -- A sector that a pool in memory doesn't use is free for a run of one sector, and so are the first such ones together.
-use Rattle.std.proofs.Common.{◌≡◌, ◌≢◌, ℕ, ◌+◌, ◌<◌, ◌≤◌, Bool, true, false, ◌||◌, ◌&&◌, ◌==◌, ◌⊎◌, inl, inr, ⊎_elim, List, [], ◌∷◌, ◌++◌, length, map, take, drop, take-append-drop, refl, sym, ap, subst, ◌∙◌, eqb, eq-eqb, arith}
-use Rattle.std.specs.Prelude.{nat_lt, nat_le, slice_index_or}
+use Rattle.std.proofs.Common.{◌≡◌, ◌≢◌, ℕ, ◌+◌, ◌<◌, ◌≤◌, Bool, true, false, ◌||◌, ◌==◌, inl, inr, ⊎_elim, List, [], ◌∷◌, ◌++◌, map, take, drop, take-append-drop, sym, ap, subst, ◌∙◌, eqb, eq-eqb, arith}
+use Rattle.std.specs.Prelude.{nat_lt, slice_index_or}
 use Rattle.std.specs.List.{AllByRecursion, IsDistinct, list_any}
-use Rattle.std.proofs.lemmas.Bool.{or_parts, and_from, lt-ltb, le-leb, ltb-true, ltb-false, cases_lt}
+use Rattle.std.proofs.lemmas.Bool.{or_parts, and_from, lt-ltb, le-leb, ltb-false, cases_lt}
 use Rattle.std.proofs.lemmas.List.{get_or_past}
 use Rattle.std.proofs.lemmas.List.FromFn.{get_or-map-range_with_len}
 use Rattle.ddt_entry.specs.declared.entry.Entry.{Entry}
@@ -13,7 +13,7 @@ use Rattle.grant_book.proofs.FreeLaws.{IsFree as IsFreeSector}
 use Rattle.pool_model.specs.Pool.{Pool, Pointer, Pairwise, IsApart, run_length}
 use Rattle.pool_model.specs.Space.{is_used, lies_in, used_sectors}
 use Rattle.pool_model.specs.Table.{TableState, waiting_in}
-use Rattle.pool_model.specs.Group.{Standing, IsUnnamed, IsFree, AreFresh}
+use Rattle.pool_model.specs.Group.{IsFree, AreFresh}
 use Rattle.table_state.specs.Pools.{Held, IsHeld}
 use Rattle.table_state.proofs.Lists.{all_from, all_front, all_take}
 use Rattle.table_state.proofs.UsedLaws.{length-used_sectors}
@@ -37,7 +37,7 @@ page_apart : (place page : ℕ) → (page == place) ≡ false → IsApart place 
 page_apart place page other = places_apart place page (λ same. clash (page == place) (eq-eqb page place (sym same)) other)
 
 -- where no element passes a test each fails it
-each_fails : {X : Type 0} (test : X → Bool) (xs : List X) → list_any test xs ≡ false → AllByRecursion (λ x. test x ≡ false) xs
+pub each_fails : {X : Type 0} (test : X → Bool) (xs : List X) → list_any test xs ≡ false → AllByRecursion (λ x. test x ≡ false) xs
 each_fails test [] none = tt
 each_fails test (x ∷ xs) none =
     let parts = or_parts (test x) (list_any test xs) none in
@@ -131,6 +131,6 @@ pub found_fresh : (image : Image) (held : Held) (pool : Pool) (table : TableStat
 found_fresh image held pool table is blocks wanted places found count =
     fresh_runs (IsFree held.sectors held.pages (record { pool = pool; table = table; blocks = blocks })) (take count places)
     (all_from (λ place. slice_index_or held.used place true ≡ false) (λ place. IsFree held.sectors held.pages (record { pool = pool; table = table; blocks = blocks }) place 1) (λ place unused. unused_free image held pool table is blocks place unused)
-      (take count places) (all_take (λ place. slice_index_or held.used place true ≡ false) count places (found_unused held.used wanted places found)))
+    (take count places) (all_take (λ place. slice_index_or held.used place true ≡ false) count places (found_unused held.used wanted places found)))
     (pairs_front (λ a b. IsApart a 1 b 1) (take count places) (drop count places)
-      (subst (Pairwise (λ a b. IsApart a 1 b 1)) (sym (take-append-drop count places)) (distinct_apart places (found-distinct held.used wanted places found))))
+    (subst (Pairwise (λ a b. IsApart a 1 b 1)) (sym (take-append-drop count places)) (distinct_apart places (found-distinct held.used wanted places found))))

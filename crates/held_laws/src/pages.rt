@@ -1,0 +1,32 @@
+//! The sectors of an image's pages.
+
+ghost use Rattle.std.specs.Prelude.{◌≡◌, ◌<◌, ◌≤◌, ℕ, List, length};
+ghost use Rattle.std.specs.List.{AllByRecursion};
+ghost use Rattle.disk_model.specs.Images.{Image};
+ghost use Rattle.pool_model.specs.Group.{Standing, IsUnnamed, ArePages};
+ghost use Rattle.pool_model.specs.Pool.{Pool, Pairwise, IsApart};
+ghost use Rattle.pool_model.specs.Space.{image_pages};
+ghost use Rattle.pool_model.specs.Table.{TableState};
+ghost use Rattle.table_state.specs.Flat.{StandsFor};
+ghost use Rattle.table_state.specs.Pools.{Held, IsHeld};
+ghost use Rattle.table_state.specs.Sealed.{flat_of};
+ghost use Rattle.table_state.specs.Sound.{IsSound};
+ghost use Rattle.table_state.specs.declared.slot_record.SlotRecord.{SlotRecord};
+
+/// The pages of a pool in memory lie each in a sector of its own, in the pool, and where nothing else is;
+/// and they are no fewer than the image of the pool takes.
+pub fn pages_have_their_sectors()
+    ensures apart { (image : Image) (held : Held) (pool : Pool) (table : TableState) → IsHeld image held pool table → Pairwise (λ a b. IsApart a 1 b 1) held.pages }
+    ensures within { (image : Image) (held : Held) (pool : Pool) (table : TableState) → IsHeld image held pool table → AllByRecursion (λ page. page < held.sectors) held.pages }
+    ensures unnamed { (image : Image) (held : Held) (pool : Pool) (table : TableState) → IsHeld image held pool table → IsSound held → (blocks : ℕ → List ℕ)
+        → AllByRecursion (λ page. IsUnnamed (record { pool = pool; table = table; blocks = blocks }) page 1) held.pages }
+    ensures enough { (image : Image) (held : Held) (pool : Pool) (table : TableState) → IsHeld image held pool table → image_pages pool table ≤ length held.pages }
+{}
+
+/// The pages of a pool in memory are the pages of its image, where the image keeps the table as a sync
+/// writes it. Another image may keep a key twice in a log, and then take more pages.
+pub fn pages_are_the_images()
+    ensures { (image : Image) (held : Held) (pool : Pool) (table : TableState) → IsHeld image held pool table → IsSound held → (s : Standing) → s.pool ≡ pool → s.table ≡ table
+        → (tag : ℕ) (state : StandsFor tag image pool table) (slots : List SlotRecord) (pages : List ℕ) → state.flat ≡ flat_of slots table pages
+        → ArePages held.sectors s held.pages }
+{}
