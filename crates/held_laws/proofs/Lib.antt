@@ -1,4 +1,5 @@
 pub mod BlocksOf
+pub mod ClassesOf
 pub mod MarksOf
 pub mod Members
 pub mod NamedPages

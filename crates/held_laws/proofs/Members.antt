@@ -62,3 +62,11 @@ module _ {X : Type 0} where
       each : (ys : List X) → AllByRecursion (R x) ys → AllByRecursion (R (f x)) (map f ys)
       each [] all = tt
       each (y ∷ ys) all = (keeps x y all.0, each ys all.1)
+
+-- what holds between each of two lists, the other way round
+pub all_swapped : {X Y : Type 0} (R : X → Y → Type 0) (xs : List X) (ys : List Y) → AllByRecursion (λ y. AllByRecursion (λ x. R x y) xs) ys → AllByRecursion (λ x. AllByRecursion (R x) ys) xs
+all_swapped R [] ys all = tt
+all_swapped R (x ∷ xs) ys all = (
+  all_from (λ y. R x y × AllByRecursion (λ z. R z y) xs) (R x) (λ y both. both.0) ys all,
+  all_swapped R xs ys (all_from (λ y. R x y × AllByRecursion (λ z. R z y) xs) (λ y. AllByRecursion (λ z. R z y) xs) (λ y both. both.1) ys all),
+)

@@ -23,12 +23,12 @@ use Rattle.table_state.specs.Sound.{IsSound, HasKeyLengths}
 use Rattle.table_state.specs.Tables.{unique_in, duplicate_in, table_pages}
 use Rattle.table_state.specs.declared.slot_record.SlotRecord.{SlotRecord}
 use Rattle.ddt_entry.specs.Records.{IsKeyLength}
-use Rattle.table_state.proofs.FlatLaws.{one_flat}
 use Rattle.table_state.proofs.Kept.{pages_behind}
 use Rattle.table_state.proofs.Lists.{all_from, all_from_both}
 use Rattle.table_state.proofs.PagesOf.{pages_named, pages_within_named}
 use Rattle.table_state.proofs.UsedLaws.{pointer_runs, waiting_runs, slot_lengths}
-use Rattle.held_laws.proofs.Members.{clash}
+use Rattle.held_laws.proofs.ClassesOf.{as_many_unique, as_many_duplicate}
+use Rattle.held_laws.proofs.Members.{clash, all_swapped}
 use Rattle.held_laws.proofs.UnusedOf.{places_apart, each_fails}
 
 -- ---- Each page once
@@ -89,14 +89,6 @@ named_apart image seal flat read = read_keeps (Pairwise (λ a b. IsApart a 1 b 1
         named (each_fails (λ other. other == place) named (is_open-parts (length image) named place is_open).fresh))
 
 -- ---- None that a block has
-
--- what holds between each of two lists, the other way round
-all_swapped : {X Y : Type 0} (R : X → Y → Type 0) (xs : List X) (ys : List Y) → AllByRecursion (λ y. AllByRecursion (λ x. R x y) xs) ys → AllByRecursion (λ x. AllByRecursion (R x) ys) xs
-all_swapped R [] ys all = tt
-all_swapped R (x ∷ xs) ys all = (
-  all_from (λ y. R x y × AllByRecursion (λ z. R z y) xs) (R x) (λ y both. both.0) ys all,
-  all_swapped R xs ys (all_from (λ y. R x y × AllByRecursion (λ z. R z y) xs) (λ y. AllByRecursion (λ z. R z y) xs) (λ y both. both.1) ys all),
-)
 
 -- a run of one sector that is clear of the pages is apart from each
 clear_apart : (named : List ℕ) (place len : ℕ) → IsClear named place → len ≡ 1 → AllByRecursion (λ page. IsApart page 1 place len) named
@@ -162,19 +154,34 @@ module _ (image : Image) (held : Held) (pool : Pool) (table : TableState) (is : 
       put : (image pointers slots rest rest' named pages : ℕ) → image ≡ pages_for pointers + rest → pointers ≡ slots → rest ≡ rest' → pages_for slots + rest' ≤ named → pages ≡ named → image ≤ pages
       put image pointers slots rest rest' named pages total same same_rest within all = omega (arith, total, ap pages_for same, same_rest, within, all)
 
-  -- it takes as many where it keeps the table as a sync writes it
-  pub pages_exact : (tag : ℕ) (state : StandsFor tag image pool table) (slots : List SlotRecord) (pages : List ℕ) → state.flat ≡ flat_of slots table pages → length held.pages ≡ image_pages pool table
-  pages_exact tag state slots pages kept =
-      ap length is.pages_are ∙ pages_named image seal flat is.stands.read
-      ∙ ap (λ n. pages_for n + (pages_for (length flat.unique) + pages_for (length flat.duplicate) + pages_for (length flat.active) + pages_for (length flat.flushing))) (sym as_many_slots)
-      ∙ ap (λ (f : Flat). pages_for (length pool.pointers) + (pages_for (length f.unique) + pages_for (length f.duplicate) + pages_for (length f.active) + pages_for (length f.flushing))) (flats ∙ kept)
-      ∙ sym (image_pages_are pool table)
+  -- but for the logs it takes just as many, and they take the pages of the changes that the seal counts
+  pub pages_counted : (tag : ℕ) (state : StandsFor tag image pool table)
+      → length held.pages + chain_pages (length table.active) + chain_pages (length table.flush) ≡ image_pages pool table + chain_pages state.seal.active_changes + chain_pages state.seal.flushing_changes
+  pages_counted tag state =
+      put (length held.pages) (image_pages pool table) (pages_for (length pool.pointers)) (pages_for (length flat.unique)) (pages_for (length flat.duplicate)) (pages_for (length flat.active)) (pages_for (length flat.flushing))
+      (pages_for (length (unique_in table.zap))) (pages_for (length (duplicate_in table.zap))) (chain_pages (length table.active)) (chain_pages (length table.flush)) (chain_pages state.seal.active_changes) (chain_pages state.seal.flushing_changes)
+      (ap length is.pages_are ∙ pages_named image seal flat is.stands.read
+      ∙ ap (λ n. pages_for n + (pages_for (length flat.unique) + pages_for (length flat.duplicate) + pages_for (length flat.active) + pages_for (length flat.flushing))) (sym as_many_slots))
+      (image_pages_are pool table)
+      (ap pages_for (ap (λ (t : TableState). length (unique_in t.zap)) is.stands.table_is ∙ as_many_unique seal flat is.stands.whole))
+      (ap pages_for (ap (λ (t : TableState). length (duplicate_in t.zap)) is.stands.table_is ∙ as_many_duplicate seal flat is.stands.whole))
+      (ap chain_pages (ap (λ (s : Seal). s.active_changes) (sym seals) ∙ is.stands.whole.active_changes))
+      (ap chain_pages (ap (λ (s : Seal). s.flushing_changes) (sym seals) ∙ is.stands.whole.flushing_changes))
     where
       seals : seal ≡ state.seal
       seals = same_some seal state.seal (sym is.stands.counts ∙ state.counts)
 
-      flats : flat ≡ state.flat
-      flats = one_flat image state.seal flat state.flat (subst (λ (s : Seal). IsRead image s flat) seals is.stands.read) state.read
+      put : (pages image slots u d a f u' d' a' f' sa sf : ℕ) → pages ≡ slots + (u + d + a + f) → image ≡ slots + (u' + d' + a' + f') → u' ≡ u → d' ≡ d → sa ≡ a → sf ≡ f → pages + a' + f' ≡ image + sa + sf
+      put pages image slots u d a f u' d' a' f' sa sf all taken same_u same_d same_a same_f = omega arith
+
+  -- so it takes as many where the seal counts the changes that the table has
+  pub pages_exact : (tag : ℕ) (state : StandsFor tag image pool table) → state.seal.active_changes ≡ length table.active → state.seal.flushing_changes ≡ length table.flush → length held.pages ≡ image_pages pool table
+  pages_exact tag state active flushing =
+      put (length held.pages) (image_pages pool table) (chain_pages (length table.active)) (chain_pages (length table.flush)) (chain_pages state.seal.active_changes) (chain_pages state.seal.flushing_changes)
+      (pages_counted tag state) (ap chain_pages active) (ap chain_pages flushing)
+    where
+      put : (pages image a f sa sf : ℕ) → pages + a + f ≡ image + sa + sf → sa ≡ a → sf ≡ f → pages ≡ image
+      put pages image a f sa sf counted same_a same_f = omega arith
 
   -- ---- The pages of a pool in memory
 
@@ -202,9 +209,15 @@ module _ (image : Image) (held : Held) (pool : Pool) (table : TableState) (is : 
         (pages_unnamed (record { pool = pool; table = table; blocks = blocks }) flat.named (pages_behind image seal flat is.stands.read) is.stands.pointers_clear runs is.stands.waiting_clear
         (waiting_runs table lengths.zap lengths.flush lengths.active))
 
-    -- the pages of a pool in memory are those of its image
-    pub pages_are : (s : Standing) → s.pool ≡ pool → s.table ≡ table → (tag : ℕ) (state : StandsFor tag image pool table) (slots : List SlotRecord) (pages : List ℕ) → state.flat ≡ flat_of slots table pages → ArePages held.sectors s held.pages
-    pages_are s same_pool same_table tag state slots pages kept =
+    -- the pages of a pool in memory are those of its image, where the seal counts the changes that the table has
+    pub pages_by_seal : (s : Standing) → s.pool ≡ pool → s.table ≡ table → (tag : ℕ) (state : StandsFor tag image pool table) → state.seal.active_changes ≡ length table.active → state.seal.flushing_changes ≡ length table.flush
+        → ArePages held.sectors s held.pages
+    pages_by_seal s same_pool same_table tag state active flushing =
         subst (λ (p : Pool). ArePages held.sectors (record { pool = p; table = s.table; blocks = s.blocks }) held.pages) (sym same_pool)
         (subst (λ (t : TableState). ArePages held.sectors (record { pool = pool; table = t; blocks = s.blocks }) held.pages) (sym same_table)
-        (record { count = pages_exact tag state slots pages kept; apart = pages_apart; unnamed = pages_nameless s.blocks; within = pages_inside }))
+        (record { count = pages_exact tag state active flushing; apart = pages_apart; unnamed = pages_nameless s.blocks; within = pages_inside }))
+
+    -- as it does where the image keeps the table as a sync writes it
+    pub pages_as_written : (s : Standing) → s.pool ≡ pool → s.table ≡ table → (tag : ℕ) (state : StandsFor tag image pool table) (slots : List SlotRecord) (pages : List ℕ) → state.flat ≡ flat_of slots table pages → ArePages held.sectors s held.pages
+    pages_as_written s same_pool same_table tag state slots pages kept =
+        pages_by_seal s same_pool same_table tag state (state.whole.active_changes ∙ ap (λ (f : Flat). length f.active) kept) (state.whole.flushing_changes ∙ ap (λ (f : Flat). length f.flushing) kept)

@@ -18,7 +18,7 @@ mod pools;
 mod slots;
 
 pub use marks::marks_by_the_table;
-pub use pages::{pages_are_the_images, pages_have_their_sectors};
+pub use pages::{pages_are_the_images, pages_by_the_seal, pages_have_their_sectors};
 pub use places::{first_free_are_fresh, places_are_apart, unused_is_free};
 pub use pools::{blocks_stand, pool_is_refilled, refilled_pools};
 pub use slots::{a_change_behind_others, changed_pointers, freed_pointers, slots_are_the_pointers};

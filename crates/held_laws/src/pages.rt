@@ -1,11 +1,11 @@
 //! The sectors of an image's pages.
 
-ghost use Rattle.std.specs.Prelude.{◌≡◌, ◌<◌, ◌≤◌, ℕ, List, length};
+ghost use Rattle.std.specs.Prelude.{◌≡◌, ◌+◌, ◌<◌, ◌≤◌, ℕ, List, length};
 ghost use Rattle.std.specs.List.{AllByRecursion};
 ghost use Rattle.disk_model.specs.Images.{Image};
 ghost use Rattle.pool_model.specs.Group.{Standing, IsUnnamed, ArePages};
 ghost use Rattle.pool_model.specs.Pool.{Pool, Pairwise, IsApart};
-ghost use Rattle.pool_model.specs.Space.{image_pages};
+ghost use Rattle.pool_model.specs.Space.{chain_pages, image_pages};
 ghost use Rattle.pool_model.specs.Table.{TableState};
 ghost use Rattle.table_state.specs.Flat.{StandsFor};
 ghost use Rattle.table_state.specs.Pools.{Held, IsHeld};
@@ -23,10 +23,21 @@ pub fn pages_have_their_sectors()
     ensures enough { (image : Image) (held : Held) (pool : Pool) (table : TableState) → IsHeld image held pool table → image_pages pool table ≤ length held.pages }
 {}
 
-/// The pages of a pool in memory are the pages of its image, where the image keeps the table as a sync
-/// writes it. Another image may keep a key twice in a log, and then take more pages.
+/// The pages of a pool in memory are as many as its image takes, but for the logs: these take the pages
+/// of the changes that the seal counts. An image may keep changes that its table has no more: of a key
+/// that comes again in a log, or in the other one, or that was flushed already.
+pub fn pages_by_the_seal()
+    ensures { (image : Image) (held : Held) (pool : Pool) (table : TableState) → IsHeld image held pool table → (tag : ℕ) (state : StandsFor tag image pool table)
+        → length held.pages + chain_pages (length table.active) + chain_pages (length table.flush) ≡ image_pages pool table + chain_pages state.seal.active_changes + chain_pages state.seal.flushing_changes }
+{}
+
+/// The pages of a pool in memory are the pages of its image, where the seal counts the changes that the
+/// table has. So it is where the image keeps the table as a sync writes it.
 pub fn pages_are_the_images()
-    ensures { (image : Image) (held : Held) (pool : Pool) (table : TableState) → IsHeld image held pool table → IsSound held → (s : Standing) → s.pool ≡ pool → s.table ≡ table
+    ensures by_seal { (image : Image) (held : Held) (pool : Pool) (table : TableState) → IsHeld image held pool table → IsSound held → (s : Standing) → s.pool ≡ pool → s.table ≡ table
+        → (tag : ℕ) (state : StandsFor tag image pool table) → state.seal.active_changes ≡ length table.active → state.seal.flushing_changes ≡ length table.flush
+        → ArePages held.sectors s held.pages }
+    ensures as_written { (image : Image) (held : Held) (pool : Pool) (table : TableState) → IsHeld image held pool table → IsSound held → (s : Standing) → s.pool ≡ pool → s.table ≡ table
         → (tag : ℕ) (state : StandsFor tag image pool table) (slots : List SlotRecord) (pages : List ℕ) → state.flat ≡ flat_of slots table pages
         → ArePages held.sectors s held.pages }
 {}
