@@ -5,4 +5,5 @@ pub mod Members
 pub mod NamedPages
 pub mod Refilled
 pub mod SlotsOf
+pub mod SoundOf
 pub mod UnusedOf

@@ -29,6 +29,7 @@ use Rattle.table_state.proofs.PagesOf.{pages_named, pages_within_named}
 use Rattle.table_state.proofs.UsedLaws.{pointer_runs, waiting_runs, slot_lengths}
 use Rattle.held_laws.proofs.ClassesOf.{as_many_unique, as_many_duplicate}
 use Rattle.held_laws.proofs.Members.{clash, all_swapped}
+use Rattle.held_laws.proofs.SoundOf.{held_sound}
 use Rattle.held_laws.proofs.UnusedOf.{places_apart, each_fails}
 
 -- ---- Each page once
@@ -193,31 +194,33 @@ module _ (image : Image) (held : Held) (pool : Pool) (table : TableState) (is : 
       subst (AllByRecursion (λ page. page < held.sectors)) (sym is.pages_are)
       (subst (λ n. AllByRecursion (λ page. page < n) flat.named) (sym is.sectors_are) is.stands.whole.pages_within)
 
-  module _ (sound : IsSound held) where
-    runs : AllByRecursion (λ (p : Pointer). run_length p.key ≡ 1) pool.pointers
-    runs =
-        subst (λ (p : Pool). AllByRecursion (λ (q : Pointer). run_length q.key ≡ 1) p.pointers) (sym is.stands.pool_is)
-        (pointer_runs image (table_in seal flat) flat.slots
-        (subst (AllByRecursion (λ slot. IsKeyLength slot.pointer.key.len)) is.slots_are (slot_lengths held.sectors held.group held.slots sound.slots_within)))
+  sound : IsSound held
+  sound = held_sound image held pool table is
 
-    lengths : HasKeyLengths table
-    lengths = subst HasKeyLengths is.table_is sound.lengths
+  runs : AllByRecursion (λ (p : Pointer). run_length p.key ≡ 1) pool.pointers
+  runs =
+      subst (λ (p : Pool). AllByRecursion (λ (q : Pointer). run_length q.key ≡ 1) p.pointers) (sym is.stands.pool_is)
+      (pointer_runs image (table_in seal flat) flat.slots
+      (subst (AllByRecursion (λ slot. IsKeyLength slot.pointer.key.len)) is.slots_are (slot_lengths held.sectors held.group held.slots sound.slots_within)))
 
-    pub pages_nameless : (blocks : ℕ → List ℕ) → AllByRecursion (λ page. IsUnnamed (record { pool = pool; table = table; blocks = blocks }) page 1) held.pages
-    pages_nameless blocks =
-        subst (AllByRecursion (λ page. IsUnnamed (record { pool = pool; table = table; blocks = blocks }) page 1)) (sym is.pages_are)
-        (pages_unnamed (record { pool = pool; table = table; blocks = blocks }) flat.named (pages_behind image seal flat is.stands.read) is.stands.pointers_clear runs is.stands.waiting_clear
-        (waiting_runs table lengths.zap lengths.flush lengths.active))
+  lengths : HasKeyLengths table
+  lengths = subst HasKeyLengths is.table_is sound.lengths
 
-    -- the pages of a pool in memory are those of its image, where the seal counts the changes that the table has
-    pub pages_by_seal : (s : Standing) → s.pool ≡ pool → s.table ≡ table → (tag : ℕ) (state : StandsFor tag image pool table) → state.seal.active_changes ≡ length table.active → state.seal.flushing_changes ≡ length table.flush
-        → ArePages held.sectors s held.pages
-    pages_by_seal s same_pool same_table tag state active flushing =
-        subst (λ (p : Pool). ArePages held.sectors (record { pool = p; table = s.table; blocks = s.blocks }) held.pages) (sym same_pool)
-        (subst (λ (t : TableState). ArePages held.sectors (record { pool = pool; table = t; blocks = s.blocks }) held.pages) (sym same_table)
-        (record { count = pages_exact tag state active flushing; apart = pages_apart; unnamed = pages_nameless s.blocks; within = pages_inside }))
+  pub pages_nameless : (blocks : ℕ → List ℕ) → AllByRecursion (λ page. IsUnnamed (record { pool = pool; table = table; blocks = blocks }) page 1) held.pages
+  pages_nameless blocks =
+      subst (AllByRecursion (λ page. IsUnnamed (record { pool = pool; table = table; blocks = blocks }) page 1)) (sym is.pages_are)
+      (pages_unnamed (record { pool = pool; table = table; blocks = blocks }) flat.named (pages_behind image seal flat is.stands.read) is.stands.pointers_clear runs is.stands.waiting_clear
+      (waiting_runs table lengths.zap lengths.flush lengths.active))
 
-    -- as it does where the image keeps the table as a sync writes it
-    pub pages_as_written : (s : Standing) → s.pool ≡ pool → s.table ≡ table → (tag : ℕ) (state : StandsFor tag image pool table) (slots : List SlotRecord) (pages : List ℕ) → state.flat ≡ flat_of slots table pages → ArePages held.sectors s held.pages
-    pages_as_written s same_pool same_table tag state slots pages kept =
-        pages_by_seal s same_pool same_table tag state (state.whole.active_changes ∙ ap (λ (f : Flat). length f.active) kept) (state.whole.flushing_changes ∙ ap (λ (f : Flat). length f.flushing) kept)
+  -- the pages of a pool in memory are those of its image, where the seal counts the changes that the table has
+  pub pages_by_seal : (s : Standing) → s.pool ≡ pool → s.table ≡ table → (tag : ℕ) (state : StandsFor tag image pool table) → state.seal.active_changes ≡ length table.active → state.seal.flushing_changes ≡ length table.flush
+      → ArePages held.sectors s held.pages
+  pages_by_seal s same_pool same_table tag state active flushing =
+      subst (λ (p : Pool). ArePages held.sectors (record { pool = p; table = s.table; blocks = s.blocks }) held.pages) (sym same_pool)
+      (subst (λ (t : TableState). ArePages held.sectors (record { pool = pool; table = t; blocks = s.blocks }) held.pages) (sym same_table)
+      (record { count = pages_exact tag state active flushing; apart = pages_apart; unnamed = pages_nameless s.blocks; within = pages_inside }))
+
+  -- as it does where the image keeps the table as a sync writes it
+  pub pages_as_written : (s : Standing) → s.pool ≡ pool → s.table ≡ table → (tag : ℕ) (state : StandsFor tag image pool table) (slots : List SlotRecord) (pages : List ℕ) → state.flat ≡ flat_of slots table pages → ArePages held.sectors s held.pages
+  pages_as_written s same_pool same_table tag state slots pages kept =
+      pages_by_seal s same_pool same_table tag state (state.whole.active_changes ∙ ap (λ (f : Flat). length f.active) kept) (state.whole.flushing_changes ∙ ap (λ (f : Flat). length f.flushing) kept)
