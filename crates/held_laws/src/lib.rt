@@ -1,14 +1,14 @@
 //! What a pool in memory stands for over the newest sealed image, as laws.
 //!
 //! `table_state` says when a pool in memory is held over an image (`IsHeld`). Here stands what follows
-//! of it for whoever changes that pool: it is sound; its slots are its pointers', and change with them; a sector that
-//! it doesn't use is free for a run, and so are the first free ones together; the marks of its pointers
-//! are those that its table gives them; its pointers may be refilled from an image without harm to the
-//! pool or the table; blocks that are written stand at their places; and the sectors of its pages are
-//! the pages of its image.
+//! of it for whoever changes that pool: it is sound; its slots are its pointers', and change with them;
+//! a sector that it doesn't use is free for a run, and so are the first free ones together; the marks of
+//! its pointers are those that its table gives them; its pointers may be refilled from an image without
+//! harm to the pool or the table; blocks that are written stand at their places; and the sectors of its
+//! pages are the pages of its image.
 //!
-//! The functions do nothing: whoever needs a law calls its function. The live pool relies on them, where
-//! it shows that what it holds after a group is the group's pool.
+//! The functions do nothing: whoever shows that what a pool in memory holds after a group is the group's
+//! pool calls the function of a law that it needs.
 #![tactic(auto)]
 
 mod marks;
