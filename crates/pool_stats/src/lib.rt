@@ -11,6 +11,8 @@
 
 mod counts;
 mod reference;
+#[cfg(test)]
+mod tests;
 mod totals;
 
 pub use reference::{Reference, Standing};
