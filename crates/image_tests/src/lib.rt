@@ -1,9 +1,9 @@
 //! Images across the crates that write and read them: what one sync leaves, an import gives back.
 //!
 //! Nothing here is used by another crate. `syncs` syncs groups and imports the pool after each, `crash_tables`
-//! crashes the disk at each call of a sync, of groups of no pointer to 200, and `failures` has calls that
-//! fail; `crashes` has what these two share. What an import is to give is written out from what was put in;
-//! none of it was taken from a run.
+//! crashes the disk at each call of a sync, of groups of no pointer to 200, `statistics` counts a synced pool,
+//! and `failures` has calls that fail; `crashes` has what the crash tables share with it. What an import is to
+//! give is written out from what was put in; none of it was taken from a run.
 //!
 //! The tests run over a disk in memory that tells nothing of its contents (`silent_disk`), as the program
 //! runs over a file: a sync asks over told contents for what only a proof can give.
@@ -21,5 +21,7 @@ mod groups;
 mod silent_disk;
 #[cfg(test)]
 mod sound_pool;
+#[cfg(test)]
+mod statistics;
 #[cfg(test)]
 mod syncs;

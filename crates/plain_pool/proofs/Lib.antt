@@ -1,3 +1,3 @@
 pub mod Insertions
 pub mod Shares
-pub mod Sums
+pub mod Sizes

@@ -1,0 +1,6 @@
+use Rattle.std.proofs.Common.{◌≡◌, map, take}
+use Rattle.held_stats.specs.Slots.{reference_in}
+use Rattle.held_stats.proofs.slots.references_in.Given as goal
+
+abbrev pub invariant-slots : goal.invariant-slots
+invariant-slots l = l.references.items ≡ map (reference_in l.table) (take l.slot-index l.slots)

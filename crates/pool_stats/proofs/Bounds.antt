@@ -1,0 +1,76 @@
+-- Few pointers with short keys have few keys, and counts whose products fit.
+use Rattle.std.proofs.Common.{ℕ, ◌+◌, ◌*◌, ◌^◌, ◌≤◌, Bool, List, [], ◌∷◌, length, map, fold, filter, All, arith, if◌then◌else◌}
+use Rattle.std.specs.Ordering.{is_lt, is_eq}
+use Rattle.std.specs.declared.cmp.Ordering.TheVariants.{Less, Equal, Greater}
+use Rattle.std.proofs.Math.Nat.{mul-le-mul}
+use Rattle.std.proofs.lemmas.List.Sums.{length-filter, count_by-le-length}
+use Rattle.std.proofs.lemmas.List.Elements.{All-nil, All-cons, All-head, All-tail, All-filter, All-map, All-weaker}
+use Rattle.ddt_entry.specs.declared.key.Key.{Key}
+use Rattle.ddt_entry.specs.Keys.{key_cmp, key_eq}
+use Rattle.pool_model.specs.Pool.{with_key}
+use Rattle.pool_stats.specs.Counts.{AreFew, tracked_keys, count_of, sorted_keys, key_counts}
+use Rattle.pool_stats.specs.References.{AreSmall, is_tracked}
+use Rattle.pool_stats.specs.declared.counts.KeyCount.{KeyCount}
+use Rattle.pool_stats.specs.declared.reference.Reference.{Reference}
+
+-- some of few keys are few
+pub AreFew-filter : (p : KeyCount → Bool) (counts : List KeyCount) → AreFew counts → AreFew (filter p counts)
+AreFew-filter p counts few = record {
+  few = omega (arith, few.few, length-filter p counts, count_by-le-length p counts);
+  short = All-filter p (λ (counted : KeyCount). counted.key.len ≤ 4096) counts few.short;
+  low = All-filter p (λ (counted : KeyCount). counted.key.len * counted.count ≤ 2 ^ 32) counts few.low;
+}
+
+length-with_key : (key : Key) (keys : List Key) → length (with_key key keys) ≤ length keys + 1
+length-with_key key [] = omega arith
+length-with_key key (k ∷ ks) =
+    let rest = length-with_key key ks in
+    elim (key_cmp key k) as (λ o. length (if is_lt o then key ∷ k ∷ ks else (if is_eq o then k ∷ ks else k ∷ with_key key ks)) ≤ length (k ∷ ks) + 1)
+    [ Less ↦ omega arith | Equal ↦ omega arith | Greater ↦ omega arith ]
+
+length-fold : (keys more : List Key) → length (fold (λ sorted key. with_key key sorted) keys more) ≤ length keys + length more
+length-fold keys [] = omega arith
+length-fold keys (k ∷ ks) = omega (arith, length-fold (with_key k keys) ks, length-with_key k keys)
+
+All-with_key : (P : Key → Type 0) (key : Key) (keys : List Key) → P key → All P keys → All P (with_key key keys)
+All-with_key P key [] here all = All-cons P key [] here (All-nil P)
+All-with_key P key (k ∷ ks) here all =
+    elim (key_cmp key k) as (λ o. All P (if is_lt o then key ∷ k ∷ ks else (if is_eq o then k ∷ ks else k ∷ with_key key ks)))
+    [ Less ↦ All-cons P key (k ∷ ks) here all | Equal ↦ all | Greater ↦ All-cons P k (with_key key ks) (All-head P k ks all) (All-with_key P key ks here (All-tail P k ks all)) ]
+
+All-fold : (P : Key → Type 0) (keys more : List Key) → All P keys → All P more → All P (fold (λ sorted key. with_key key sorted) keys more)
+All-fold P keys [] all each = all
+All-fold P keys (k ∷ ks) all each = All-fold P (with_key k keys) ks (All-with_key P k keys (All-head P k ks each) all) (All-tail P k ks each)
+
+length-images : {X Y : Type 0} (f : X → Y) (xs : List X) → length (map f xs) ≤ length xs
+length-images f [] = omega arith
+length-images f (x ∷ xs) = omega (arith, length-images f xs)
+
+product_bound : (len count : ℕ) → len ≤ 4096 → count ≤ 1048576 → len * count ≤ 4294967296
+product_bound len count short few = mul-le-mul short few
+
+-- the counted keys of few pointers are few
+length-tracked_keys : (references : List Reference) → AreSmall references → length (tracked_keys references) ≤ 1048576
+length-tracked_keys references small =
+    let tracked : List Reference = filter (λ reference. is_tracked reference.standing) references in
+    omega (arith, small.few, length-filter (λ (reference : Reference). is_tracked reference.standing) references, count_by-le-length (λ (reference : Reference). is_tracked reference.standing) references, length-images (λ (reference : Reference). reference.key) tracked)
+
+-- the counts of few pointers' keys are few
+pub AreFew-key_counts : (references : List Reference) → AreSmall references → AreFew (key_counts (tracked_keys references))
+AreFew-key_counts references small =
+    let keys : List Key = tracked_keys references in
+    let counted : Key → KeyCount = λ key. record { key = key; count = count_of keys key } in
+    let tracked : Reference → Bool = λ reference. is_tracked reference.standing in
+    let few : length keys ≤ 1048576 = length-tracked_keys references small in
+    let each : All (λ (key : Key). key.len ≤ 4096) keys =
+    All-map (λ (key : Key). key.len ≤ 4096) (λ (reference : Reference). reference.key) (filter tracked references) (All-filter tracked (λ (reference : Reference). reference.key.len ≤ 4096) references small.short)
+    in
+    let short : All (λ (key : Key). key.len ≤ 4096) (sorted_keys keys) = All-fold (λ (key : Key). key.len ≤ 4096) [] keys (All-nil (λ (key : Key). key.len ≤ 4096)) each in
+    let low : All (λ (key : Key). key.len * count_of keys key ≤ 4294967296) (sorted_keys keys) =
+    All-weaker (λ (key : Key). key.len ≤ 4096) (λ (key : Key). key.len * count_of keys key ≤ 4294967296) (λ key h. product_bound key.len (count_of keys key) h (omega (arith, few, count_by-le-length (λ (k : Key). key_eq k key) keys))) (sorted_keys keys) short
+    in
+    record {
+      few = omega (arith, few, length-images counted (sorted_keys keys), length-fold [] keys);
+      short = All-map (λ (counted : KeyCount). counted.key.len ≤ 4096) counted (sorted_keys keys) short;
+      low = All-map (λ (counted : KeyCount). counted.key.len * counted.count ≤ 4294967296) counted (sorted_keys keys) low;
+    }

@@ -1,0 +1,5 @@
+pub mod Bounds
+pub mod Maps
+pub mod Orders
+pub mod Runs
+pub mod Pools

@@ -1,0 +1,34 @@
+-- What a map leaves of sums, counts and filters.
+use Rattle.std.proofs.Common.{◌≡◌, ℕ, ◌+◌, Bool, true, false, cond, List, [], ◌∷◌, map, filter, sum_by, count_by, refl, sym, ap, ◌∙◌, arith, ◌||◌}
+use Rattle.std.specs.List.{AllByRecursion, list_any}
+use Rattle.std.proofs.lemmas.List.Sums.{sum_by-cons}
+
+pub sum_by-map : {X Y : Type 0} (f : Y → ℕ) (g : X → Y) (xs : List X) → sum_by f (map g xs) ≡ sum_by (λ x. f (g x)) xs
+sum_by-map f g [] = refl
+sum_by-map f g (x ∷ xs) = sum_by-cons f (g x) (map g xs) ∙ ap (λ n. f (g x) + n) (sum_by-map f g xs) ∙ sym (sum_by-cons (λ x. f (g x)) x xs)
+
+pub count_by-map : {X Y : Type 0} (p : Y → Bool) (g : X → Y) (xs : List X) → count_by p (map g xs) ≡ count_by (λ x. p (g x)) xs
+count_by-map p g xs = sum_by-map (λ y. cond (p y) 1 0) g xs
+
+pub filter-map : {X Y : Type 0} (p : Y → Bool) (g : X → Y) (xs : List X) → filter p (map g xs) ≡ map g (filter (λ x. p (g x)) xs)
+filter-map p g [] = refl
+filter-map p g (x ∷ xs) =
+    elim (p (g x)) as (λ b. cond b (g x ∷ filter p (map g xs)) (filter p (map g xs)) ≡ map g (cond b (x ∷ filter (λ x. p (g x)) xs) (filter (λ x. p (g x)) xs)))
+    [ true ↦ ap (λ ys. g x ∷ ys) (filter-map p g xs) | false ↦ filter-map p g xs ]
+
+-- functions that agree on a list map it alike
+pub map-same : {X Y : Type 0} (f g : X → Y) (xs : List X) → AllByRecursion (λ x. f x ≡ g x) xs → map f xs ≡ map g xs
+map-same f g [] all = refl
+map-same f g (x ∷ xs) all = ap (λ y. y ∷ map f xs) all.0 ∙ ap (λ ys. g x ∷ ys) (map-same f g xs all.1)
+
+pub AllByRecursion-weaker : {X : Type 0} (P Q : X → Type 0) → ((x : X) → P x → Q x) → (xs : List X) → AllByRecursion P xs → AllByRecursion Q xs
+AllByRecursion-weaker P Q leads [] all = tt
+AllByRecursion-weaker P Q leads (x ∷ xs) all = (leads x all.0, AllByRecursion-weaker P Q leads xs all.1)
+
+-- none of a list is counted where none passes
+pub count_by-none : {X : Type 0} (p : X → Bool) (xs : List X) → list_any p xs ≡ false → count_by p xs ≡ 0
+count_by-none p [] none = refl
+count_by-none p (x ∷ xs) none =
+    sum_by-cons (λ x. cond (p x) 1 0) x xs
+    ∙ (elim (p x) as (λ b. (b || list_any p xs) ≡ false → cond b 1 0 + count_by p xs ≡ 0)
+    [ true ↦ λ h. cc | false ↦ λ h. omega (arith, count_by-none p xs h) ]) none

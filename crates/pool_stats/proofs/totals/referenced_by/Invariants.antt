@@ -1,0 +1,7 @@
+use Rattle.std.proofs.Common.{◌≡◌, ◌*◌, ◌^◌, ◌≤◌, take, sum_by}
+use Rattle.pool_stats.proofs.totals.referenced_by.Given as goal
+
+abbrev pub invariant-counts : goal.invariant-counts
+invariant-counts l =
+    (l.bytes ≡ sum_by (λ counted. counted.key.len * counted.count) (take l.counted-index l.counts))
+    × (l.bytes ≤ 2 ^ 32 * l.counted-index)
