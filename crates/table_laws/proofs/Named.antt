@@ -20,7 +20,7 @@ use Rattle.table_laws.proofs.Finding.{keys_same}
 
 -- ---- Sorted keys
 
-keys_put : IsPut key_cmp (λ (key : Key). key) with_key
+pub keys_put : IsPut key_cmp (λ (key : Key). key) with_key
 keys_put = record { total = key_cmp_total; exact = exact_keys; alone = λ x. refl; step = λ x y ys. by_order x y ys (key_cmp x y) refl }
   where
     by_order : (x y : Key) (ys : List Key) (o : Ordering) → key_cmp x y ≡ o
@@ -29,7 +29,7 @@ keys_put = record { total = key_cmp_total; exact = exact_keys; alone = λ x. ref
     by_order x y ys Equal said = ap (λ (k : Key). k ∷ ys) (sym (exact_keys x y said))
     by_order x y ys Greater said = refl
 
-abbrev KeyBelow : Key → Key → Type 0
+abbrev pub KeyBelow : Key → Key → Type 0
 KeyBelow a b = is_lt (key_cmp a b) ≡ true
 
 -- keys that are named, sorted, each once
