@@ -22,7 +22,7 @@ use Rattle.table_state.proofs.TablePuts.{entries_put, apart_by_order}
 use Rattle.table_laws.specs.Homes.{HomesMatch, is_among}
 use Rattle.table_laws.proofs.Lookups.{any-put, at-above}
 use Rattle.table_laws.proofs.Finding.{keys_same, found-is, rising_found}
-use Rattle.table_laws.proofs.Named.{keys_put, KeyBelow}
+use Rattle.table_laws.proofs.Named.{keys_put, or_rotates, or_false, KeyBelow}
 
 -- ---- Rising keys
 
@@ -81,16 +81,6 @@ among_step key keys p = by_mark (is_tracked p.mark)
     by_mark : (b : Bool) → is_among key (if b then with_key p.key keys else keys) ≡ ((b && key_eq p.key key) || is_among key keys)
     by_mark true = any-put keys_same keys_put key p.key keys
     by_mark false = refl
-
-or_rotates : (a b d : Bool) → (a || (b || d)) ≡ ((b || a) || d)
-or_rotates true true d = refl
-or_rotates true false d = refl
-or_rotates false true d = refl
-or_rotates false false d = refl
-
-or_false : (b : Bool) → (b || false) ≡ b
-or_false true = refl
-or_false false = refl
 
 among_fold : (key : Key) (ps : List Pointer) (keys : List Key) → is_among key (fold step keys ps) ≡ (list_any (tracks key) ps || is_among key keys)
 among_fold key [] keys = refl
