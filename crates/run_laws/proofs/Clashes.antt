@@ -5,10 +5,10 @@ use Rattle.std.proofs.lemmas.Grind.{flat_map-append}
 use Rattle.ddt_entry.specs.declared.key.Key.{Key}
 use Rattle.pool_model.specs.Plain.{Part, Task, lanes, Told}
 use Rattle.pool_model.specs.Group.{Standing}
-use Rattle.pool_model.specs.Run.{Ended, last_standing}
+use Rattle.pool_model.specs.Run.{Ended, Order, Room, NotesRun, ended_items, last_standing}
 use Rattle.pool_model.specs.Clash.{NoOther, HasNoOther, NoClash, contents, contents_in, part_contents, part_trusted, trusted}
 use Rattle.run_laws.specs.Items.{IsIn, AreAmong}
-use Rattle.run_laws.proofs.Items.{trusted-append, trusted_more}
+use Rattle.run_laws.proofs.Items.{trusted-append, rest_trusted}
 
 module _ {X : Type 0} where
   pub all_from : (P Q : X → Type 0) → ((x : X) → P x → Q x) → (xs : List X) → AllByRecursion P xs → AllByRecursion Q xs
@@ -54,7 +54,7 @@ clash_before k s parts xs ys none =
     all_left (HasNoOther k s (contents parts)) (trusted s xs) (trusted (last_standing s xs) ys)
     (subst (AllByRecursion (HasNoOther k s (contents parts))) (trusted-append s xs ys) none)
 
--- what differs from each content differs from those that are among them
+-- a content without another among all contents has none among some of them
 pub no_other_among : (k : List ℕ → Key) (s : Standing) (some all : List (List ℕ)) (x : List ℕ) → AreAmong some all → HasNoOther k s all x → HasNoOther k s some x
 no_other_among k s some all x among none = record {
   writes = among_all (NoOther k x) some all among none.writes;
@@ -62,19 +62,36 @@ no_other_among k s some all x among none = record {
   waiting = none.waiting;
 }
 
--- the premise of the group that comes next, from what stands before it
+-- the premise of the group that comes next, from what stands before it, whatever comes behind it
+pub clash_next : (k : List ℕ → Key) (s : Standing) (parts : List Part) (xs ys : List Ended) (moment : ℕ) (tasks : List Task) (n : Option Told) (after at : Standing)
+    → last_standing s xs ≡ at
+    → ((x : List ℕ) → HasNoOther k s (contents parts) x → HasNoOther k at (contents parts) x)
+    → AreAmong (contents_in tasks) (contents parts)
+    → NoClash k s parts (xs ++ record { part = lanes moment tasks; note = n; standing = after } ∷ ys)
+    → AllByRecursion (HasNoOther k at (contents_in tasks)) (part_trusted at.pool (lanes moment tasks))
+clash_next k s parts xs ys moment tasks n after at is kept among none =
+    all_from (HasNoOther k s (contents parts)) (HasNoOther k at (contents_in tasks))
+    (λ x free. no_other_among k at (contents_in tasks) (contents parts) x among (kept x free)) (part_trusted at.pool (lanes moment tasks))
+    (subst (λ (t : Standing). AllByRecursion (HasNoOther k s (contents parts)) (part_trusted t.pool (lanes moment tasks))) is
+    (all_left (HasNoOther k s (contents parts)) (part_trusted (last_standing s xs).pool (lanes moment tasks)) (trusted after ys)
+    (all_right (HasNoOther k s (contents parts)) (trusted s xs) (trusted (last_standing s xs) (record { part = lanes moment tasks; note = n; standing = after } ∷ ys))
+    (subst (AllByRecursion (HasNoOther k s (contents parts))) (trusted-append s xs (record { part = lanes moment tasks; note = n; standing = after } ∷ ys)) none))))
+
 pub clash_now : (k : List ℕ → Key) (s : Standing) (parts : List Part) (xs : List Ended) (moment : ℕ) (tasks : List Task) (n : Option Told) (after at : Standing)
     → last_standing s xs ≡ at
     → ((x : List ℕ) → HasNoOther k s (contents parts) x → HasNoOther k at (contents parts) x)
     → AreAmong (contents_in tasks) (contents parts)
     → NoClash k s parts (xs ++ record { part = lanes moment tasks; note = n; standing = after } ∷ [])
     → AllByRecursion (HasNoOther k at (contents_in tasks)) (part_trusted at.pool (lanes moment tasks))
-clash_now k s parts xs moment tasks n after at is kept among none =
-    all_from (HasNoOther k s (contents parts)) (HasNoOther k at (contents_in tasks))
-    (λ x free. no_other_among k at (contents_in tasks) (contents parts) x among (kept x free)) (part_trusted at.pool (lanes moment tasks))
-    (subst (λ (t : Standing). AllByRecursion (HasNoOther k s (contents parts)) (part_trusted t.pool (lanes moment tasks))) is
-    (all_right (HasNoOther k s (contents parts)) (trusted s xs) (part_trusted (last_standing s xs).pool (lanes moment tasks))
-    (subst (AllByRecursion (HasNoOther k s (contents parts))) (trusted_more s xs (record { part = lanes moment tasks; note = n; standing = after })) none)))
+clash_now k s parts xs = clash_next k s parts xs []
+
+-- items behind a run, for which it has no notes, change nothing of the premise
+module _ (o : Order) (r : Room) (k : List ℕ → Key) (done rest parts : List Part) (notes : List Told) (s : Standing) (run : NotesRun o r k done notes s) where
+  pub clash_without_rest : NoClash k s parts (ended_items o k (done ++ rest) notes s) → NoClash k s parts (ended_items o k done notes s)
+  clash_without_rest none = subst (AllByRecursion (HasNoOther k s (contents parts))) (rest_trusted o r k done rest notes s run) none
+
+  pub clash_with_rest : NoClash k s parts (ended_items o k done notes s) → NoClash k s parts (ended_items o k (done ++ rest) notes s)
+  clash_with_rest none = subst (AllByRecursion (HasNoOther k s (contents parts))) (sym (rest_trusted o r k done rest notes s run)) none
 
 -- what holds of each content of the items holds of those of one item
 pub all_of_item : (P : List ℕ → Type 0) (done rest : List Part) (part : Part) → AllByRecursion P (contents (done ++ part ∷ rest)) → AllByRecursion P (part_contents part)

@@ -79,13 +79,13 @@ module _ (o : Order) (r : Room) (k : List ℕ → Key) (s : Standing) (part : Pa
   plain_run None none go goes = goes
   plain_run (Some kind) none go goes = absurd (cc none)
 
-  plain_ended : (kind : Option Kind) → kind ≡ None → (go : List Told → Standing → List Ended) → ended_item go o k s part kind [] ≡ plain_end part s ∷ go [] s
-  plain_ended None none go = refl
-  plain_ended (Some kind) none go = absurd (cc none)
+  plain_ended : (kind : Option Kind) (notes : List Told) → kind ≡ None → (go : List Told → Standing → List Ended) → ended_item go o k s part kind notes ≡ plain_end part s ∷ go notes s
+  plain_ended None notes none go = refl
+  plain_ended (Some kind) notes none go = absurd (cc none)
 
-  plain_begun : (kind : Option Kind) → kind ≡ None → (go : List Told → Standing → List Standing) → begun_item go o k s part kind [] ≡ go [] s
-  plain_begun None none go = refl
-  plain_begun (Some kind) none go = absurd (cc none)
+  plain_begun : (kind : Option Kind) (notes : List Told) → kind ≡ None → (go : List Told → Standing → List Standing) → begun_item go o k s part kind notes ≡ go notes s
+  plain_begun None notes none go = refl
+  plain_begun (Some kind) notes none go = absurd (cc none)
 
   group_run : (kind : Option Kind) (x : Kind) (told : Told) → kind ≡ Some x → IsGroupNote o r k s part x told → (go : List Told → Standing → Type 0) → go [] (noted_standing o k s part told) → NotesItem go o r k s part kind (told ∷ [])
   group_run None x told is note go goes = absurd (cc is)
@@ -124,18 +124,27 @@ none_trusted o k (prune moment rule ∷ rest) s = refl
 none_trusted o k (quota limit ∷ rest) s = refl
 none_trusted o k (set_mode lane mode ∷ rest) s = refl
 
--- a run with one item more that is no group
+-- a run with an item behind it that is no group, and then with others
 module _ (o : Order) (r : Room) (k : List ℕ → Key) (done : List Part) (part : Part) (notes : List Told) (s : Standing) (run : NotesRun o r k done notes s) (plain : kind_of part ≡ None) where
+  pub plain_then_ended : (rest : List Part) (more : List Told) → ended_items o k (done ++ part ∷ rest) (notes ++ more) s
+      ≡ ended_items o k done notes s ++ plain_end part (last_standing s (ended_items o k done notes s)) ∷ ended_items o k rest more (last_standing s (ended_items o k done notes s))
+  plain_then_ended rest more =
+      ended-append o r k done (part ∷ rest) notes more s run
+      ∙ ap (λ (xs : List Ended). ended_items o k done notes s ++ xs) (plain_ended o r k (last_standing s (ended_items o k done notes s)) part (kind_of part) more plain (ended_items o k rest))
+
+  pub plain_then_begun : (rest : List Part) (more : List Told) → begun o k (done ++ part ∷ rest) (notes ++ more) s
+      ≡ begun o k done notes s ++ begun o k rest more (last_standing s (ended_items o k done notes s))
+  plain_then_begun rest more =
+      begun-append o r k done (part ∷ rest) notes more s run
+      ∙ ap (λ (xs : List Standing). begun o k done notes s ++ xs) (plain_begun o r k (last_standing s (ended_items o k done notes s)) part (kind_of part) more plain (begun o k rest))
+
   pub plain_more : NotesRun o r k (done ++ part ∷ []) notes s
   plain_more =
       subst (λ (ns : List Told). NotesRun o r k (done ++ part ∷ []) ns s) (append-nil notes)
       (run-append o r k done (part ∷ []) notes [] s run (plain_run o r k (last_standing s (ended_items o k done notes s)) part (kind_of part) plain (NotesRun o r k []) refl))
 
   pub plain_more_ended : ended_items o k (done ++ part ∷ []) notes s ≡ ended_items o k done notes s ++ plain_end part (last_standing s (ended_items o k done notes s)) ∷ []
-  plain_more_ended =
-      ap (λ (ns : List Told). ended_items o k (done ++ part ∷ []) ns s) (sym (append-nil notes))
-      ∙ ended-append o r k done (part ∷ []) notes [] s run
-      ∙ ap (λ (xs : List Ended). ended_items o k done notes s ++ xs) (plain_ended o r k (last_standing s (ended_items o k done notes s)) part (kind_of part) plain (ended_items o k []))
+  plain_more_ended = ap (λ (ns : List Told). ended_items o k (done ++ part ∷ []) ns s) (sym (append-nil notes)) ∙ plain_then_ended [] []
 
   pub plain_more_stands : last_standing s (ended_items o k (done ++ part ∷ []) notes s) ≡ last_standing s (ended_items o k done notes s)
   plain_more_stands =
@@ -144,53 +153,47 @@ module _ (o : Order) (r : Room) (k : List ℕ → Key) (done : List Part) (part 
 
   pub plain_more_begun : begun o k (done ++ part ∷ []) notes s ≡ begun o k done notes s
   plain_more_begun =
-      ap (λ (ns : List Told). begun o k (done ++ part ∷ []) ns s) (sym (append-nil notes))
-      ∙ begun-append o r k done (part ∷ []) notes [] s run
-      ∙ ap (λ (xs : List Standing). begun o k done notes s ++ xs) (plain_begun o r k (last_standing s (ended_items o k done notes s)) part (kind_of part) plain (begun o k []))
-      ∙ append-nil (begun o k done notes s)
+      ap (λ (ns : List Told). begun o k (done ++ part ∷ []) ns s) (sym (append-nil notes)) ∙ plain_then_begun [] [] ∙ append-nil (begun o k done notes s)
 
--- a run with one group more
+-- a run with a group behind it, and then with others
 module _ (o : Order) (r : Room) (k : List ℕ → Key) (done : List Part) (part : Part) (notes : List Told) (told : Told) (s : Standing) (run : NotesRun o r k done notes s) (kind : Kind) (is : kind_of part ≡ Some kind) where
+  pub group_then_ended : (rest : List Part) (more : List Told) → ended_items o k (done ++ part ∷ rest) (notes ++ told ∷ more) s
+      ≡ ended_items o k done notes s ++ noted_end o k (last_standing s (ended_items o k done notes s)) part told ∷ ended_items o k rest more (noted_standing o k (last_standing s (ended_items o k done notes s)) part told)
+  group_then_ended rest more =
+      ended-append o r k done (part ∷ rest) notes (told ∷ more) s run
+      ∙ ap (λ (xs : List Ended). ended_items o k done notes s ++ xs) (group_ended o r k (last_standing s (ended_items o k done notes s)) part (kind_of part) kind told more is (ended_items o k rest))
+
+  pub group_then_begun : (rest : List Part) (more : List Told) → begun o k (done ++ part ∷ rest) (notes ++ told ∷ more) s
+      ≡ begun o k done notes s ++ (begun_by told.outcome o k (last_standing s (ended_items o k done notes s)) part told ++ begun o k rest more (noted_standing o k (last_standing s (ended_items o k done notes s)) part told))
+  group_then_begun rest more =
+      begun-append o r k done (part ∷ rest) notes (told ∷ more) s run
+      ∙ ap (λ (xs : List Standing). begun o k done notes s ++ xs) (group_begun o r k (last_standing s (ended_items o k done notes s)) part (kind_of part) kind told more is (begun o k rest))
+
   pub group_more : IsGroupNote o r k (last_standing s (ended_items o k done notes s)) part kind told → NotesRun o r k (done ++ part ∷ []) (notes ++ told ∷ []) s
   group_more note =
       run-append o r k done (part ∷ []) notes (told ∷ []) s run
       (group_run o r k (last_standing s (ended_items o k done notes s)) part (kind_of part) kind told is note (NotesRun o r k []) refl)
 
   pub group_more_ended : ended_items o k (done ++ part ∷ []) (notes ++ told ∷ []) s ≡ ended_items o k done notes s ++ noted_end o k (last_standing s (ended_items o k done notes s)) part told ∷ []
-  group_more_ended =
-      ended-append o r k done (part ∷ []) notes (told ∷ []) s run
-      ∙ ap (λ (xs : List Ended). ended_items o k done notes s ++ xs) (group_ended o r k (last_standing s (ended_items o k done notes s)) part (kind_of part) kind told [] is (ended_items o k []))
+  group_more_ended = group_then_ended [] []
 
   pub group_more_stands : last_standing s (ended_items o k (done ++ part ∷ []) (notes ++ told ∷ []) s) ≡ noted_standing o k (last_standing s (ended_items o k done notes s)) part told
   group_more_stands =
       ap (last_standing s) group_more_ended
       ∙ last_standing-append s (ended_items o k done notes s) (noted_end o k (last_standing s (ended_items o k done notes s)) part told ∷ [])
 
-  pub group_more_begun : begun o k (done ++ part ∷ []) (notes ++ told ∷ []) s ≡ begun o k done notes s ++ begun_by told.outcome o k (last_standing s (ended_items o k done notes s)) part told
-  group_more_begun =
-      begun-append o r k done (part ∷ []) notes (told ∷ []) s run
-      ∙ ap (λ (xs : List Standing). begun o k done notes s ++ xs)
-      (group_begun o r k (last_standing s (ended_items o k done notes s)) part (kind_of part) kind told [] is (begun o k [])
-      ∙ append-nil (begun_by told.outcome o k (last_standing s (ended_items o k done notes s)) part told))
-
-  -- and with items behind that have no note
+  -- items behind that have no note begin nothing
   pub group_whole_begun : (rest : List Part) → begun o k (done ++ part ∷ rest) (notes ++ told ∷ []) s ≡ begun o k done notes s ++ begun_by told.outcome o k (last_standing s (ended_items o k done notes s)) part told
   group_whole_begun rest =
-      begun-append o r k done (part ∷ rest) notes (told ∷ []) s run
-      ∙ ap (λ (xs : List Standing). begun o k done notes s ++ xs)
-      (group_begun o r k (last_standing s (ended_items o k done notes s)) part (kind_of part) kind told [] is (begun o k rest)
-      ∙ ap (λ (xs : List Standing). begun_by told.outcome o k (last_standing s (ended_items o k done notes s)) part told ++ xs) (none_begun o k rest (noted_standing o k (last_standing s (ended_items o k done notes s)) part told))
-      ∙ append-nil (begun_by told.outcome o k (last_standing s (ended_items o k done notes s)) part told))
+      group_then_begun rest []
+      ∙ ap (λ (xs : List Standing). begun o k done notes s ++ (begun_by told.outcome o k (last_standing s (ended_items o k done notes s)) part told ++ xs)) (none_begun o k rest (noted_standing o k (last_standing s (ended_items o k done notes s)) part told))
+      ∙ ap (λ (xs : List Standing). begun o k done notes s ++ xs) (append-nil (begun_by told.outcome o k (last_standing s (ended_items o k done notes s)) part told))
+
+  pub group_more_begun : begun o k (done ++ part ∷ []) (notes ++ told ∷ []) s ≡ begun o k done notes s ++ begun_by told.outcome o k (last_standing s (ended_items o k done notes s)) part told
+  group_more_begun = group_whole_begun []
 
   pub begun_whole : (rest : List Part) → begun o k (done ++ part ∷ rest) (notes ++ told ∷ []) s ≡ begun o k (done ++ part ∷ []) (notes ++ told ∷ []) s
   begun_whole rest = group_whole_begun rest ∙ sym group_more_begun
-
-  -- these end as the group does, and then those up to the next group
-  pub group_whole_ended : (rest : List Part) → ended_items o k (done ++ part ∷ rest) (notes ++ told ∷ []) s
-      ≡ ended_items o k done notes s ++ noted_end o k (last_standing s (ended_items o k done notes s)) part told ∷ ended_items o k rest [] (noted_standing o k (last_standing s (ended_items o k done notes s)) part told)
-  group_whole_ended rest =
-      ended-append o r k done (part ∷ rest) notes (told ∷ []) s run
-      ∙ ap (λ (xs : List Ended). ended_items o k done notes s ++ xs) (group_ended o r k (last_standing s (ended_items o k done notes s)) part (kind_of part) kind told [] is (ended_items o k rest))
 
 -- trusted contents of some items and then of others
 pub trusted-append : (s : Standing) (xs ys : List Ended) → trusted s (xs ++ ys) ≡ trusted s xs ++ trusted (last_standing s xs) ys

@@ -1,7 +1,9 @@
 -- One item at the end of a run, and what is among the elements of a list.
-use Rattle.std.specs.Prelude.{◌≡◌, ◌⊎◌, ℕ, List, [], ◌∷◌, Some, None}
+use Rattle.std.specs.Prelude.{take, ◌≡◌, ◌⊎◌, ℕ, List, [], ◌∷◌, Some, None}
 use Rattle.std.specs.List.{AllByRecursion}
 use Rattle.ddt_entry.specs.declared.key.Key.{Key}
+use Rattle.ddt_entry.specs.declared.entry.Entry.{Entry}
+use Rattle.pool_model.specs.Pool.{Pointer}
 use Rattle.pool_model.specs.Table.{waiting_in}
 use Rattle.pool_model.specs.Plain.{Part, Told}
 use Rattle.pool_model.specs.Group.{Standing}
@@ -28,3 +30,17 @@ AreAmong some all = AllByRecursion (λ x. IsIn x all) some
 abbrev pub WaitingStays : (before after : Standing) → Type 0
 WaitingStays before after =
     AllByRecursion (λ e. IsIn e (waiting_in before.table) × (after.blocks e.home.place ≡ before.blocks e.home.place)) (waiting_in after.table)
+
+-- a pointer from before has this entry's key, and the bytes that are at its home after
+pub record WaitsByPointer (before after : Standing) (e : Entry) : Type 0 where
+  pub pointer : Pointer
+  pub was_there : IsIn pointer before.pool.pointers
+  pub key_is : pointer.key ≡ e.key
+  pub bytes_are : pointer.content ≡ take e.key.len (after.blocks e.home.place)
+
+-- each home that waits after waited before, over the same bytes, or a pointer from before had its key and its bytes
+abbrev pub WaitingComes : (before after : Standing) → Type 0
+WaitingComes before after =
+    AllByRecursion
+    (λ e. (IsIn e (waiting_in before.table) × (after.blocks e.home.place ≡ before.blocks e.home.place)) ⊎ WaitsByPointer before after e)
+    (waiting_in after.table)

@@ -8,8 +8,8 @@
 //! begun, so the laws on which of some standings stands say that a longer list has what a shorter one has.
 //!
 //! The premise on clashes is made once, of the first standing and of all contents of the items. The laws
-//! give each group its own premise, at the standing where it opens: a group of lanes' commands keeps the
-//! premise, since each pointer that it leaves was there before or has a content that it writes.
+//! give each group its own premise, at the standing where it opens: a group keeps the premise, since each
+//! pointer that it leaves was there before or has a content that it writes, and so has each home that waits.
 //!
 //! The functions do nothing: whoever needs a law calls its function, or cites the lemma behind it. They
 //! stand on the definitions alone, and are for the layers that run a session, in memory or on a disk.
@@ -21,7 +21,7 @@ ghost use Rattle.ddt_entry.specs.declared.key.Key.{Key};
 ghost use Rattle.ddt_entry.specs.declared.entry.Home.{Home};
 ghost use Rattle.ddt_entry.specs.declared.entry.Entry.{Entry};
 ghost use Rattle.pool_model.specs.declared.notes.Kind.{Kind};
-ghost use Rattle.pool_model.specs.declared.notes.Outcome.TheVariants.{NoSpace, Cut};
+ghost use Rattle.pool_model.specs.declared.notes.Outcome.TheVariants.{Sealed, NoSpace, Cut};
 ghost use Rattle.pool_model.specs.Table.{found, waiting_in};
 ghost use Rattle.pool_model.specs.Plain.{Part, Task, lanes, Told};
 ghost use Rattle.pool_model.specs.Group.{Standing, lane_by_lane};
@@ -29,7 +29,7 @@ ghost use Rattle.pool_model.specs.Run.{Ended, Order, Room, IsGroupNote, NotesRun
 ghost use Rattle.pool_model.specs.Crash.{AnyStands, StandsAt, begun, begun_by};
 ghost use Rattle.pool_model.specs.Clash.{HasNoOther, NoClash, contents, contents_in, part_contents, part_trusted, trusted};
 ghost use Rattle.pool_model.specs.Text.{item_text, report};
-ghost use Rattle.run_laws.specs.Items.{AreAmong, IsIn, WaitingStays, noted_end, plain_end};
+ghost use Rattle.run_laws.specs.Items.{AreAmong, IsIn, WaitingComes, WaitingStays, noted_end, plain_end};
 
 /// How a group may end where something stands, and which runs it may give out: any rule.
 pub trait RoomRule {
@@ -62,6 +62,12 @@ pub fn plain_item_more<R: RoomRule>()
         → last_standing s (ended_items o k (done ++ part ∷ []) notes s) ≡ last_standing s (ended_items o k done notes s) }
     ensures begun { (o : Order) (k : List ℕ → Key) (done : List Part) (part : Part) (notes : List Told) (s : Standing) → NotesRun o R.room k done notes s → kind_of part ≡ None
         → begun o k (done ++ part ∷ []) notes s ≡ begun o k done notes s }
+    ensures ended_then { (o : Order) (k : List ℕ → Key) (done : List Part) (part : Part) (notes : List Told) (s : Standing) → NotesRun o R.room k done notes s → kind_of part ≡ None
+        → (rest : List Part) (more : List Told)
+        → ended_items o k (done ++ part ∷ rest) (notes ++ more) s ≡ ended_items o k done notes s ++ plain_end part (last_standing s (ended_items o k done notes s)) ∷ ended_items o k rest more (last_standing s (ended_items o k done notes s)) }
+    ensures begun_then { (o : Order) (k : List ℕ → Key) (done : List Part) (part : Part) (notes : List Told) (s : Standing) → NotesRun o R.room k done notes s → kind_of part ≡ None
+        → (rest : List Part) (more : List Told)
+        → begun o k (done ++ part ∷ rest) (notes ++ more) s ≡ begun o k done notes s ++ begun o k rest more (last_standing s (ended_items o k done notes s)) }
 {}
 
 /// A group more takes a note more, and ends, leaves what stands and may be begun as its note says.
@@ -74,15 +80,19 @@ pub fn group_more<R: RoomRule>()
         → last_standing s (ended_items o k (done ++ part ∷ []) (notes ++ told ∷ []) s) ≡ noted_standing o k (last_standing s (ended_items o k done notes s)) part told }
     ensures begun { (o : Order) (k : List ℕ → Key) (done : List Part) (part : Part) (notes : List Told) (told : Told) (s : Standing) → NotesRun o R.room k done notes s → (kind : Kind) → kind_of part ≡ Some kind
         → begun o k (done ++ part ∷ []) (notes ++ told ∷ []) s ≡ begun o k done notes s ++ begun_by told.outcome o k (last_standing s (ended_items o k done notes s)) part told }
+    ensures ended_then { (o : Order) (k : List ℕ → Key) (done : List Part) (part : Part) (notes : List Told) (told : Told) (s : Standing) → NotesRun o R.room k done notes s → (kind : Kind) → kind_of part ≡ Some kind
+        → (rest : List Part) (more : List Told)
+        → ended_items o k (done ++ part ∷ rest) (notes ++ told ∷ more) s ≡ ended_items o k done notes s ++ noted_end o k (last_standing s (ended_items o k done notes s)) part told ∷ ended_items o k rest more (noted_standing o k (last_standing s (ended_items o k done notes s)) part told) }
+    ensures begun_then { (o : Order) (k : List ℕ → Key) (done : List Part) (part : Part) (notes : List Told) (told : Told) (s : Standing) → NotesRun o R.room k done notes s → (kind : Kind) → kind_of part ≡ Some kind
+        → (rest : List Part) (more : List Told)
+        → begun o k (done ++ part ∷ rest) (notes ++ told ∷ more) s
+        ≡ begun o k done notes s ++ (begun_by told.outcome o k (last_standing s (ended_items o k done notes s)) part told ++ begun o k rest more (noted_standing o k (last_standing s (ended_items o k done notes s)) part told)) }
 {}
 
 /// Items behind the last note begin nothing, also where that note is of a group that has not ended.
 pub fn items_behind_a_note<R: RoomRule>()
-    ensures begun { (o : Order) (k : List ℕ → Key) (done : List Part) (part : Part) (notes : List Told) (told : Told) (s : Standing) → NotesRun o R.room k done notes s → (kind : Kind) → kind_of part ≡ Some kind
+    ensures { (o : Order) (k : List ℕ → Key) (done : List Part) (part : Part) (notes : List Told) (told : Told) (s : Standing) → NotesRun o R.room k done notes s → (kind : Kind) → kind_of part ≡ Some kind
         → (rest : List Part) → begun o k (done ++ part ∷ rest) (notes ++ told ∷ []) s ≡ begun o k (done ++ part ∷ []) (notes ++ told ∷ []) s }
-    ensures ended { (o : Order) (k : List ℕ → Key) (done : List Part) (part : Part) (notes : List Told) (told : Told) (s : Standing) → NotesRun o R.room k done notes s → (kind : Kind) → kind_of part ≡ Some kind
-        → (rest : List Part)
-        → ended_items o k (done ++ part ∷ rest) (notes ++ told ∷ []) s ≡ ended_items o k done notes s ++ noted_end o k (last_standing s (ended_items o k done notes s)) part told ∷ ended_items o k rest [] (noted_standing o k (last_standing s (ended_items o k done notes s)) part told) }
 {}
 
 /// Items behind a run, for which it has no notes, begin nothing and write nothing; those up to the first
@@ -147,12 +157,24 @@ pub fn premise_of_the_first()
     ensures { (k : List ℕ → Key) (s : Standing) (parts : List Part) (xs ys : List Ended) → NoClash k s parts (xs ++ ys) → NoClash k s parts xs }
 {}
 
-/// It gives the group that comes next its own premise, where what differs from each content at first still
-/// does when the group opens.
+/// Items behind a run, for which it has no notes, change nothing of the premise.
+pub fn premise_without_the_rest<R: RoomRule>()
+    ensures without { (o : Order) (k : List ℕ → Key) (done : List Part) (rest parts : List Part) (notes : List Told) (s : Standing) → NotesRun o R.room k done notes s
+        → NoClash k s parts (ended_items o k (done ++ rest) notes s) → NoClash k s parts (ended_items o k done notes s) }
+    ensures with_rest { (o : Order) (k : List ℕ → Key) (done : List Part) (rest parts : List Part) (notes : List Told) (s : Standing) → NotesRun o R.room k done notes s
+        → NoClash k s parts (ended_items o k done notes s) → NoClash k s parts (ended_items o k (done ++ rest) notes s) }
+{}
+
+/// The premise gives the group that comes next its own, whatever comes behind the group, where a content
+/// without another of its key at first has none when the group opens.
 pub fn premise_of_the_next()
-    ensures { (k : List ℕ → Key) (s : Standing) (parts : List Part) (xs : List Ended) (moment : ℕ) (tasks : List Task) (n : Option Told) (after at : Standing) → last_standing s xs ≡ at
+    ensures now { (k : List ℕ → Key) (s : Standing) (parts : List Part) (xs : List Ended) (moment : ℕ) (tasks : List Task) (n : Option Told) (after at : Standing) → last_standing s xs ≡ at
         → ((x : List ℕ) → HasNoOther k s (contents parts) x → HasNoOther k at (contents parts) x) → AreAmong (contents_in tasks) (contents parts)
         → NoClash k s parts (xs ++ record { part = lanes moment tasks; note = n; standing = after } ∷ [])
+        → AllByRecursion (HasNoOther k at (contents_in tasks)) (part_trusted at.pool (lanes moment tasks)) }
+    ensures next { (k : List ℕ → Key) (s : Standing) (parts : List Part) (xs ys : List Ended) (moment : ℕ) (tasks : List Task) (n : Option Told) (after at : Standing) → last_standing s xs ≡ at
+        → ((x : List ℕ) → HasNoOther k s (contents parts) x → HasNoOther k at (contents parts) x) → AreAmong (contents_in tasks) (contents parts)
+        → NoClash k s parts (xs ++ record { part = lanes moment tasks; note = n; standing = after } ∷ ys)
         → AllByRecursion (HasNoOther k at (contents_in tasks)) (part_trusted at.pool (lanes moment tasks)) }
 {}
 
@@ -161,15 +183,24 @@ pub fn contents_of_one_item()
     ensures { (done rest : List Part) (part : Part) → AreAmong (part_contents part) (contents (done ++ part ∷ rest)) }
 {}
 
-/// A content that differs from each other before a group of lanes' commands does so after it, where no home
+/// A content that has no other of its key before a group of lanes' commands has none after it, where no home
 /// begins to wait.
 pub fn group_keeps_the_premise()
     ensures sealed { (k : List ℕ → Key) (s : Standing) (moment : ℕ) (tasks : List Task) (told : Told) (others : List (List ℕ)) → AreAmong (contents_in tasks) others
         → WaitingStays s (sealed_standing lane_by_lane k s (lanes moment tasks) told)
         → (x : List ℕ) → HasNoOther k s others x → HasNoOther k (sealed_standing lane_by_lane k s (lanes moment tasks) told) others x }
     ensures noted { (k : List ℕ → Key) (s : Standing) (moment : ℕ) (tasks : List Task) (told : Told) (others : List (List ℕ)) → AreAmong (contents_in tasks) others
-        → WaitingStays s (sealed_standing lane_by_lane k s (lanes moment tasks) told)
+        → (told.outcome ≡ Sealed → WaitingStays s (sealed_standing lane_by_lane k s (lanes moment tasks) told))
         → (x : List ℕ) → HasNoOther k s others x → HasNoOther k (noted_standing lane_by_lane k s (lanes moment tasks) told) others x }
+{}
+
+/// The same of a group of any kind, also where homes begin to wait, if each has the key and the bytes of a
+/// pointer from before.
+pub fn any_group_keeps_the_premise()
+    ensures sealed { (k : List ℕ → Key) (s : Standing) (part : Part) (told : Told) (others : List (List ℕ)) → AreAmong (part_contents part) others → WaitingComes s (sealed_standing lane_by_lane k s part told)
+        → (x : List ℕ) → HasNoOther k s others x → HasNoOther k (sealed_standing lane_by_lane k s part told) others x }
+    ensures noted { (k : List ℕ → Key) (s : Standing) (part : Part) (told : Told) (others : List (List ℕ)) → AreAmong (part_contents part) others → (told.outcome ≡ Sealed → WaitingComes s (sealed_standing lane_by_lane k s part told))
+        → (x : List ℕ) → HasNoOther k s others x → HasNoOther k (noted_standing lane_by_lane k s part told) others x }
 {}
 
 /// No home begins to wait where each that is found later without pointers was found so before, over the same
