@@ -1,0 +1,14 @@
+mod Aside
+mod Counts
+mod Courses
+mod Going
+mod Homes
+mod Joining
+mod Keeping
+mod Pointers
+mod Removing
+mod Rows
+mod Settling
+mod Steps
+mod Turning
+mod Writing
