@@ -4,6 +4,7 @@
 mod item;
 mod looking;
 mod opening;
+mod running;
 mod status;
 mod words;
 
