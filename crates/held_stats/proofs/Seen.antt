@@ -1,6 +1,7 @@
 -- What the statistics see of a pool in memory is what they see of the pool that it stands for.
-use Rattle.std.proofs.Common.{◌≡◌, ◌≤◌, List, [], ◌∷◌, length, map, refl, sym, ap, subst, ◌∙◌, arith, true}
-use Rattle.std.proofs.lemmas.List.Elements.{All-map}
+use Rattle.std.proofs.Common.{◌≡◌, ◌≤◌, List, [], ◌∷◌, length, map, All, refl, sym, ap, subst, ◌∙◌, arith, true}
+use Rattle.std.proofs.lemmas.List.Elements.{All-map, All-nil, All-cons, All-head, All-tail}
+use Rattle.ddt_entry.specs.declared.key.Key.{Key}
 use Rattle.disk_model.specs.Images.{Image}
 use Rattle.pool_model.specs.Pool.{Pool, Pairwise}
 use Rattle.pool_model.specs.Table.{TableState}
@@ -9,6 +10,8 @@ use Rattle.pool_stats.specs.declared.reference.Reference.{Reference}
 use Rattle.table_state.specs.Flat.{pointer_of, stands_before}
 use Rattle.table_state.specs.Pools.{Held, IsHeld}
 use Rattle.table_state.specs.Sound.{IsSound}
+use Rattle.table_state.specs.Tables.{IsTable}
+use Rattle.table_state.proofs.TableBack.{is_table_in}
 use Rattle.table_state.specs.declared.slot_record.SlotRecord.{SlotRecord}
 use Rattle.held_stats.specs.Slots.{reference_in}
 use Rattle.held_stats.proofs.Numbers.{length-rising, short_keys}
@@ -30,13 +33,27 @@ pub few_slots : (image : Image) (held : Held) (pool : Pool) (table : TableState)
 few_slots image held pool table sound is =
     length-rising held.sectors held.group held.slots sound.slots_within (subst (λ (slots : List SlotRecord). Pairwise (λ a b. stands_before a b ≡ true) slots) (sym is.slots_are) is.stands.whole.slots_rising)
 
-length-seen : (table : TableState) (slots : List SlotRecord) → length (map (reference_in table) slots) ≡ length slots
-length-seen table [] = refl
-length-seen table (slot ∷ slots) = omega (arith, length-seen table slots)
+length-keys : {X : Type 0} (key_of : X → Key) (xs : List X) → length (map key_of xs) ≡ length xs
+length-keys key_of [] = refl
+length-keys key_of (x ∷ xs) = omega (arith, length-keys key_of xs)
+
+-- what holds of the images holds of each element's image
+All-unmap : {X Y : Type 0} (P : Y → Type 0) (f : X → Y) (xs : List X) → All P (map f xs) → All (λ x. P (f x)) xs
+All-unmap {X} P f [] all = All-nil (λ (x : X). P (f x))
+All-unmap {X} P f (x ∷ xs) all = All-cons (λ (x : X). P (f x)) x xs (All-head P (f x) (map f xs) all) (All-unmap P f xs (All-tail P (f x) (map f xs) all))
 
 -- few slots are few pointers with short keys
-pub AreSmall-slots : (held : Held) → IsSound held → length held.slots ≤ 1048576 → AreSmall (map (reference_in held.table) held.slots)
-AreSmall-slots held sound few = record {
-  few = omega (arith, few, length-seen held.table held.slots);
-  short = All-map (λ (reference : Reference). reference.key.len ≤ 4096) (reference_in held.table) held.slots (short_keys held.sectors held.group held.slots sound.slots_within);
-}
+pub AreSmall-slots : (held : Held) (references : List Reference) → IsSound held → length held.slots ≤ 1048576 → map (λ (reference : Reference). reference.key) references ≡ map (λ (slot : SlotRecord). slot.pointer.key) held.slots → AreSmall references
+AreSmall-slots held references sound few keys =
+    let short : All (λ (key : Key). key.len ≤ 4096) (map (λ (slot : SlotRecord). slot.pointer.key) held.slots) =
+    All-map (λ (key : Key). key.len ≤ 4096) (λ (slot : SlotRecord). slot.pointer.key) held.slots (short_keys held.sectors held.group held.slots sound.slots_within)
+    in
+    let same : length (map (λ (reference : Reference). reference.key) references) ≡ length (map (λ (slot : SlotRecord). slot.pointer.key) held.slots) = ap length keys in
+    record {
+      few = omega (arith, few, same, length-keys (λ (reference : Reference). reference.key) references, length-keys (λ (slot : SlotRecord). slot.pointer.key) held.slots);
+      short = All-unmap (λ (key : Key). key.len ≤ 4096) (λ (reference : Reference). reference.key) references (subst (All (λ (key : Key). key.len ≤ 4096)) (sym keys) short);
+    }
+
+-- the table of a pool that an image stands for is sorted
+pub sorted-held : (image : Image) (held : Held) (pool : Pool) (table : TableState) → IsHeld image held pool table → IsTable held.table
+sorted-held image held pool table is = subst IsTable (sym (is.table_is ∙ is.stands.table_is)) (is_table_in is.stands.seal is.stands.flat is.stands.whole)

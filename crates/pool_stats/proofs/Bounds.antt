@@ -1,10 +1,11 @@
 -- Few pointers with short keys have few keys, and counts whose products fit.
 use Rattle.std.proofs.Common.{ℕ, ◌+◌, ◌*◌, ◌^◌, ◌≤◌, Bool, List, [], ◌∷◌, length, map, fold, filter, All, arith, if◌then◌else◌}
+use Rattle.std.specs.List.{AllByRecursion}
 use Rattle.std.specs.Ordering.{is_lt, is_eq}
 use Rattle.std.specs.declared.cmp.Ordering.TheVariants.{Less, Equal, Greater}
 use Rattle.std.proofs.Math.Nat.{mul-le-mul}
 use Rattle.std.proofs.lemmas.List.Sums.{length-filter, count_by-le-length}
-use Rattle.std.proofs.lemmas.List.Elements.{All-nil, All-cons, All-head, All-tail, All-filter, All-map, All-weaker}
+use Rattle.std.proofs.lemmas.List.Elements.{All-filter, All-map, All-weaker, All-from_recursion, recursion_from_All}
 use Rattle.ddt_entry.specs.declared.key.Key.{Key}
 use Rattle.ddt_entry.specs.Keys.{key_cmp, key_eq}
 use Rattle.pool_model.specs.Pool.{with_key}
@@ -12,13 +13,14 @@ use Rattle.pool_stats.specs.Counts.{AreFew, tracked_keys, count_of, sorted_keys,
 use Rattle.pool_stats.specs.References.{AreSmall, is_tracked}
 use Rattle.pool_stats.specs.declared.counts.KeyCount.{KeyCount}
 use Rattle.pool_stats.specs.declared.reference.Reference.{Reference}
+use Rattle.pool_stats.proofs.Orders.{All-with_key}
 
 -- some of few keys are few
 pub AreFew-filter : (p : KeyCount → Bool) (counts : List KeyCount) → AreFew counts → AreFew (filter p counts)
 AreFew-filter p counts few = record {
   few = omega (arith, few.few, length-filter p counts, count_by-le-length p counts);
   short = All-filter p (λ (counted : KeyCount). counted.key.len ≤ 4096) counts few.short;
-  low = All-filter p (λ (counted : KeyCount). counted.key.len * counted.count ≤ 2 ^ 32) counts few.low;
+  bytes = All-filter p (λ (counted : KeyCount). counted.key.len * counted.count ≤ 2 ^ 32) counts few.bytes;
 }
 
 length-with_key : (key : Key) (keys : List Key) → length (with_key key keys) ≤ length keys + 1
@@ -32,15 +34,13 @@ length-fold : (keys more : List Key) → length (fold (λ sorted key. with_key k
 length-fold keys [] = omega arith
 length-fold keys (k ∷ ks) = omega (arith, length-fold (with_key k keys) ks, length-with_key k keys)
 
-All-with_key : (P : Key → Type 0) (key : Key) (keys : List Key) → P key → All P keys → All P (with_key key keys)
-All-with_key P key [] here all = All-cons P key [] here (All-nil P)
-All-with_key P key (k ∷ ks) here all =
-    elim (key_cmp key k) as (λ o. All P (if is_lt o then key ∷ k ∷ ks else (if is_eq o then k ∷ ks else k ∷ with_key key ks)))
-    [ Less ↦ All-cons P key (k ∷ ks) here all | Equal ↦ all | Greater ↦ All-cons P k (with_key key ks) (All-head P k ks all) (All-with_key P key ks here (All-tail P k ks all)) ]
+fold-every : (P : Key → Type 0) (keys more : List Key) → AllByRecursion P keys → AllByRecursion P more → AllByRecursion P (fold (λ sorted key. with_key key sorted) keys more)
+fold-every P keys [] all each = all
+fold-every P keys (k ∷ ks) all each = fold-every P (with_key k keys) ks (All-with_key P k keys each.0 all) each.1
 
-All-fold : (P : Key → Type 0) (keys more : List Key) → All P keys → All P more → All P (fold (λ sorted key. with_key key sorted) keys more)
-All-fold P keys [] all each = all
-All-fold P keys (k ∷ ks) all each = All-fold P (with_key k keys) ks (All-with_key P k keys (All-head P k ks each) all) (All-tail P k ks each)
+-- what holds of each key holds of the sorted ones
+All-sorted_keys : (P : Key → Type 0) (keys : List Key) → All P keys → All P (sorted_keys keys)
+All-sorted_keys P keys each = All-from_recursion P (sorted_keys keys) (fold-every P [] keys tt (recursion_from_All P keys each))
 
 length-images : {X Y : Type 0} (f : X → Y) (xs : List X) → length (map f xs) ≤ length xs
 length-images f [] = omega arith
@@ -65,12 +65,12 @@ AreFew-key_counts references small =
     let each : All (λ (key : Key). key.len ≤ 4096) keys =
     All-map (λ (key : Key). key.len ≤ 4096) (λ (reference : Reference). reference.key) (filter tracked references) (All-filter tracked (λ (reference : Reference). reference.key.len ≤ 4096) references small.short)
     in
-    let short : All (λ (key : Key). key.len ≤ 4096) (sorted_keys keys) = All-fold (λ (key : Key). key.len ≤ 4096) [] keys (All-nil (λ (key : Key). key.len ≤ 4096)) each in
+    let short : All (λ (key : Key). key.len ≤ 4096) (sorted_keys keys) = All-sorted_keys (λ (key : Key). key.len ≤ 4096) keys each in
     let low : All (λ (key : Key). key.len * count_of keys key ≤ 4294967296) (sorted_keys keys) =
     All-weaker (λ (key : Key). key.len ≤ 4096) (λ (key : Key). key.len * count_of keys key ≤ 4294967296) (λ key h. product_bound key.len (count_of keys key) h (omega (arith, few, count_by-le-length (λ (k : Key). key_eq k key) keys))) (sorted_keys keys) short
     in
     record {
       few = omega (arith, few, length-images counted (sorted_keys keys), length-fold [] keys);
       short = All-map (λ (counted : KeyCount). counted.key.len ≤ 4096) counted (sorted_keys keys) short;
-      low = All-map (λ (counted : KeyCount). counted.key.len * counted.count ≤ 4294967296) counted (sorted_keys keys) low;
+      bytes = All-map (λ (counted : KeyCount). counted.key.len * counted.count ≤ 4294967296) counted (sorted_keys keys) low;
     }

@@ -55,7 +55,8 @@ pub has-behind : (key : Key) (keys : List Key) → AreBehind key keys → has ke
 has-behind key [] behind = refl
 has-behind key (k ∷ ks) behind = ap (λ b. b || has ks key) (differ key k behind.0) ∙ has-behind key ks behind.1
 
-All-with_key : (P : Key → Type 0) (key : Key) (keys : List Key) → P key → AllByRecursion P keys → AllByRecursion P (with_key key keys)
+-- what holds of a key and of keys holds of them with it
+pub All-with_key : (P : Key → Type 0) (key : Key) (keys : List Key) → P key → AllByRecursion P keys → AllByRecursion P (with_key key keys)
 All-with_key P key [] here all = (here, tt)
 All-with_key P key (k ∷ ks) here all =
     elim (key_cmp key k) as (λ o. AllByRecursion P (if is_lt o then key ∷ k ∷ ks else (if is_eq o then k ∷ ks else k ∷ with_key key ks)))

@@ -41,7 +41,7 @@ runs_of (k ∷ ks) = runs_from k 1 ks
 pub record AreFew (counts : List KeyCount) : Type 0 where
   pub few : length counts ≤ 2 ^ 20
   pub short : All (λ counted. counted.key.len ≤ 4096) counts
-  pub low : All (λ counted. counted.key.len * counted.count ≤ 2 ^ 32) counts
+  pub bytes : All (λ counted. counted.key.len * counted.count ≤ 2 ^ 32) counts
 
 -- the keys whose counts are of bucket b, with their bytes once and once for each pointer
 abbrev pub bucket_in : List KeyCount → (b : ℕ) → Bucket
