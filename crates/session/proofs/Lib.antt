@@ -1,2 +1,4 @@
 pub mod Ends
 pub mod Settings
+pub mod Goings
+pub mod ItemsGone

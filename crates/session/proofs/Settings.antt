@@ -69,7 +69,7 @@ module _ (key_of : List ℕ → Key) (s : Standing) (told : Told) where
   by_outcome : (part : Part) → IsItem part → (kind : Kind) → kind_of part ≡ Some kind → (outcome : Outcome)
       → (s.pool.group ≤ (standing_by outcome s (sealed_standing lane_by_lane key_of s part told)).pool.group) × ((standing_by outcome s (sealed_standing lane_by_lane key_of s part told)).pool.modes ≡ s.pool.modes)
   by_outcome part is kind e Sealed = let next = sealed_group part is kind e in (omega (arith, next.0), next.1)
-  by_outcome part is kind e (NoSpace need free) = (omega arith, refl)
+  by_outcome part is kind e (NoSpace needed left) = (omega arith, refl)
   by_outcome part is kind e Cut = (omega arith, refl)
 
 -- an item leaves the modes, and the group's number doesn't fall

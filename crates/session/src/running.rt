@@ -13,7 +13,7 @@ ghost use Rattle.session.specs.declared.status.Status.{Status};
 use crate::item::do_item;
 use crate::status::Status;
 use ddt_entry::KeyOf;
-use disk_model::Disk;
+use disk_model::{Disk, crash_laws};
 use io_model::Sink;
 use pool_model::{Item, Session};
 use std::alloc::Global;
@@ -49,8 +49,13 @@ fn do_items<D: Disk, W: Sink, K: KeyOf>(
     ensures sink { W.faults out.old ≤ W.faults out.new }
     ensures sink_cause { IsErrOf result Status.SinkFault → Rose (W.faults out.old) (W.faults out.new) }
 {
+    crash_laws(disk);
     'items: for item in items {
-        do_item(alloc, pool, disk, out, keyer, item, session)?;
+        crash_laws(disk);
+        let done = do_item(alloc, pool, disk, out, keyer, item, session);
+        if let Err(status) = done {
+            return Err(status);
+        }
     }
     Ok(())
 }
