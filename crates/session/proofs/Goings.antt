@@ -61,10 +61,10 @@ no_clash_now key_of s at parts done rest part split modes others clash =
     let whole : HasNoClashFrom key_of s (done ++ part ∷ rest) = subst (HasNoClashFrom key_of s) split clash in
     let there : AllByRecursion (HasNoOther key_of s (contents (done ++ part ∷ rest))) (part_trusted s.pool part) = trusted_item (HasNoOther key_of s (contents (done ++ part ∷ rest))) s done rest part whole in
     let now : (content : List ℕ) → HasNoOther key_of s (contents (done ++ part ∷ rest)) content → HasNoOther key_of at (contents (done ++ part ∷ rest)) content =
-        subst (λ (ps : List Part). (content : List ℕ) → HasNoOther key_of s (contents ps) content → HasNoOther key_of at (contents ps) content) split others in
+    subst (λ (ps : List Part). (content : List ℕ) → HasNoOther key_of s (contents ps) content → HasNoOther key_of at (contents ps) content) split others in
     subst (AllByRecursion (HasNoOther key_of at (part_contents part))) (sym (trusted_by_modes s at modes part))
     (all_from (HasNoOther key_of s (contents (done ++ part ∷ rest))) (HasNoOther key_of at (part_contents part))
-      (λ content is. no_other_among key_of at (part_contents part) (contents (done ++ part ∷ rest)) content (contents_of_item done rest part) (now content is)) (part_trusted s.pool part) there)
+    (λ content is. no_other_among key_of at (part_contents part) (contents (done ++ part ∷ rest)) content (contents_of_item done rest part) (now content is)) (part_trusted s.pool part) there)
 
 -- what a crash leaves of the items so far, and of one more
 module _ {D : Type 0} (clock : D → ℕ) (left_since : D → ℕ → Image → Type 0) (may_leave : D → Image → Type 0) (start mid new : D)
@@ -95,9 +95,9 @@ module _ {D : Type 0} (clock : D → ℕ) (left_since : D → ℕ → Image → 
       let P : Image → Type 0 = (λ c. AnyStands (Holds tag c) (s ∷ begun lane_by_lane key_of (done ++ more) (notes ++ last) s)) in
       and_then clock left_since start mid new P
       (weakened clock left_since start mid (λ c. AnyStands (Holds tag c) (s ∷ begun lane_by_lane key_of done notes s)) P before
-        (λ c any. subst (AnyStands (Holds tag c)) (sym (whole_of run)) (any_left (Holds tag c) (s ∷ begun lane_by_lane key_of done notes s) (begun lane_by_lane key_of more last at) any)))
+      (λ c any. subst (AnyStands (Holds tag c)) (sym (whole_of run)) (any_left (Holds tag c) (s ∷ begun lane_by_lane key_of done notes s) (begun lane_by_lane key_of more last at) any)))
       (weakened clock left_since mid new (λ c. AnyStands (Holds tag c) (at ∷ begun lane_by_lane key_of more last at)) P after
-        (λ c any. subst (AnyStands (Holds tag c)) (sym ends.1) (any_right (Holds tag c) ends.0 (at ∷ begun lane_by_lane key_of more last at) any)))
+      (λ c any. subst (AnyStands (Holds tag c)) (sym ends.1) (any_right (Holds tag c) ends.0 (at ∷ begun lane_by_lane key_of more last at) any)))
 
   pub return_more : NotesRun lane_by_lane room key_of done notes s → (failed : Bool) (sealed : ℕ) (c : Image)
       → StandsAt (Holds tag c) failed sealed (at ∷ begun lane_by_lane key_of more last at)
@@ -166,10 +166,18 @@ module _ {D : Type 0} (clock : D → ℕ) (left_since : D → ℕ → Image → 
       let cut = begun_cut (room_from sectors s.pool.group pages) key_of here part rest last item.notes in
       let crash = subst (λ (b : List Standing). LeavesOnly clock left_since mid new (λ c. AnyStands (Holds tag c) (here ∷ b))) (sym cut) item.crash in
       let left : (c : Image) → may_leave new c → StandsAt (Holds tag c) (is_write_fault status) sealed' (here ∷ begun lane_by_lane key_of (part ∷ rest) last here) =
-          subst (λ (b : List Standing). (c : Image) → may_leave new c → StandsAt (Holds tag c) (is_write_fault status) sealed' (here ∷ b)) (sym cut) item.at_return in
+      subst (λ (b : List Standing). (c : Image) → may_leave new c → StandsAt (Holds tag c) (is_write_fault status) sealed' (here ∷ b)) (sym cut) item.at_return in
       record {
         stopped = record {
-          finished = done; item = part; rest = rest; parts_are = split; notes = notes; last = last; notes_are = refl; run = going.run; last_note = item.notes;
+          finished = done;
+          item = part;
+          rest = rest;
+          parts_are = split;
+          notes = notes;
+          last = last;
+          notes_are = refl;
+          run = going.run;
+          last_note = item.notes;
           text = (item.text.0, item.text.1, Appends-trans old written now (report (ended_items lane_by_lane key_of done notes s)) (take item.text.0 (report (ended_items lane_by_lane key_of (part ∷ []) last here))) going.text item.text.2);
         };
         crash = subst (λ (ps : List Part). LeavesOnly clock left_since start new (λ c. AnyStands (Holds tag c) (s ∷ begun lane_by_lane key_of ps (notes ++ last) s))) (sym split)

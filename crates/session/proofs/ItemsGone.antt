@@ -85,7 +85,7 @@ module _ {D : Type 0} (clock : D → ℕ) (left_since : D → ℕ → Image → 
         let item = went at s.pool.group pages going.over going.later (no_clash_now key_of s at parts done rest part split going.modes going.others clash) in
         subst (λ (n : List Told). IsGoing clock left_since may_leave seen start new first.sectors pages key_of tag s parts (done ++ part ∷ []) n held' sealed' old now) (sym item.1)
         (more_going clock left_since may_leave seen start mid new first.sectors pages key_of tag s parts done part rest notes item.0 held held' sealed sealed' old written now split is going
-          (subst (λ (n : ℕ). ItemDone clock left_since may_leave seen mid new n s.pool.group pages key_of tag at part item.0 held' sealed' written now) going.sectors_are item.2))
+        (subst (λ (n : ℕ). ItemDone clock left_since may_leave seen mid new n s.pool.group pages key_of tag at part item.0 held' sealed' written now) going.sectors_are item.2))
 
     pub goes_stop : (status : Status) → GoesOn clock left_since may_leave seen start mid key_of tag first parts done notes held sealed old written → Went (Err status)
         → StopsIn clock left_since may_leave seen start new key_of tag first parts told sealed' old now status
@@ -95,7 +95,7 @@ module _ {D : Type 0} (clock : D → ℕ) (left_since : D → ℕ → Image → 
         let item = went at s.pool.group pages going.over going.later (no_clash_now key_of s at parts done rest part split going.modes going.others clash) in
         subst (λ (n : List Told). IsStopped clock left_since may_leave start new first.sectors pages key_of tag s parts n sealed' old now status) (sym item.1)
         (stop_now clock left_since may_leave seen start mid new first.sectors pages key_of tag s parts done part rest notes item.0 held held' sealed sealed' old written now split status going
-          (subst (λ (n : ℕ). ItemCut clock left_since may_leave mid new n s.pool.group pages key_of tag at part item.0 sealed' written now status) going.sectors_are item.2))
+        (subst (λ (n : ℕ). ItemCut clock left_since may_leave mid new n s.pool.group pages key_of tag at part item.0 sealed' written now status) going.sectors_are item.2))
 
 -- faults that were counted before, and more
 min_more : (a f later m n most : ℕ) → min (a + f) most ≤ m → min (m + (later - f)) most ≤ n → f ≤ later → min (a + later) most ≤ n

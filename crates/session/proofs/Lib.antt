@@ -2,3 +2,4 @@ pub mod Ends
 pub mod Settings
 pub mod Goings
 pub mod ItemsGone
+pub mod Sessions

@@ -94,13 +94,9 @@ IsEarly Done = ⊥
 IsEarly SinkFault = ⊥
 IsEarly _ = ⊤
 
--- the file was read to its end, its items begin at this standing, and, where no two contents clash, they went as in a run, whatever a crash does
-pub record HasBegun {D : Type 0} (clock : D → ℕ) (left_since : D → ℕ → Image → Type 0) (may_leave : D → Image → Type 0) (seen : D → Option Image) (before after : D)
-    (word : Word) (tag : ℕ) (image : Image) (key_of : List ℕ → Key) (left rest : Option (List ℕ)) (session : Session) (old new : Option (List ℕ)) (status : Status) : Type 0 where
-  pub bytes : List ℕ
-  pub parts : List Part
-  pub read : HasRead left rest bytes
-  pub file : file_of bytes ≡ Ok parts
+-- the items begin at this standing, and, where no two contents clash, they went as in a run, whatever a crash does
+pub record HasBegunItems {D : Type 0} (clock : D → ℕ) (left_since : D → ℕ → Image → Type 0) (may_leave : D → Image → Type 0) (seen : D → Option Image) (before after : D)
+    (word : Word) (tag : ℕ) (image : Image) (key_of : List ℕ → Key) (parts : List Part) (session : Session) (old new : Option (List ℕ)) (status : Status) : Type 0 where
   pub s : Standing
   pub sectors : ℕ
   pub pages : ℕ
@@ -110,6 +106,15 @@ pub record HasBegun {D : Type 0} (clock : D → ℕ) (left_since : D → ℕ →
       → Crashes clock left_since may_leave before after tag image (s ∷ begun lane_by_lane key_of parts (told_in session) s) (is_write_fault status) session.sealed
   pub went : HasNoClashFrom key_of s parts
       → WentOn status (HasDone (seen after) (may_leave after) key_of tag s sectors pages parts session old new) (HasStopped key_of s sectors pages parts session old new)
+
+-- the file was read to its end, and its items began
+pub record HasBegun {D : Type 0} (clock : D → ℕ) (left_since : D → ℕ → Image → Type 0) (may_leave : D → Image → Type 0) (seen : D → Option Image) (before after : D)
+    (word : Word) (tag : ℕ) (image : Image) (key_of : List ℕ → Key) (left rest : Option (List ℕ)) (session : Session) (old new : Option (List ℕ)) (status : Status) : Type 0 where
+  pub bytes : List ℕ
+  pub parts : List Part
+  pub read : HasRead left rest bytes
+  pub file : file_of bytes ≡ Ok parts
+  pub items : HasBegunItems clock left_since may_leave seen before after word tag image key_of parts session old new status
 
 -- a pool that the image stands for, or the new pool that is made where there is none
 abbrev pub MayStand : Word → (tag : ℕ) → Image → Standing → Type 0
@@ -164,3 +169,47 @@ HasStatusCause (LastGroup group) word tag sectors (Some image) reads_before read
 HasStatusCause (PoolExists group) word tag sectors (Some image) reads_before reads_now writes_before writes_now sink_before sink_now faults = (word ≡ Make) × HasNewest group image
 HasStatusCause (BadSize n) word tag sectors seen reads_before reads_now writes_before writes_now sink_before sink_now faults = (word ≡ Make) × (n ≡ sectors) × (IsLawfulSize sectors → ⊥)
 HasStatusCause _ word tag sectors seen reads_before reads_now writes_before writes_now sink_before sink_now faults = ⊤
+
+-- a session over an image that ended so: its items began, or they didn't
+abbrev pub RanOver : {D : Type 0} → (clock : D → ℕ) (left_since : D → ℕ → Image → Type 0) (may_leave : D → Image → Type 0) (seen : D → Option Image) (before after : D)
+    → Word → (tag : ℕ) → Image → (List ℕ → Key) → (left rest : Option (List ℕ)) → Session → (old new : Option (List ℕ)) → Status → Type 0
+RanOver clock left_since may_leave seen before after word tag image key_of left rest session old new status =
+    HasBegun clock left_since may_leave seen before after word tag image key_of left rest session old new status
+    ⊎ HasNotBegun clock left_since may_leave before after word tag image session old new status
+
+-- the same of the items of a file
+abbrev pub ItemsRanOver : {D : Type 0} → (clock : D → ℕ) (left_since : D → ℕ → Image → Type 0) (may_leave : D → Image → Type 0) (seen : D → Option Image) (before after : D)
+    → Word → (tag : ℕ) → Image → (List ℕ → Key) → List Part → Session → (old new : Option (List ℕ)) → Status → Type 0
+ItemsRanOver clock left_since may_leave seen before after word tag image key_of parts session old new status =
+    HasBegunItems clock left_since may_leave seen before after word tag image key_of parts session old new status
+    ⊎ HasNotBegun clock left_since may_leave before after word tag image session old new status
+
+-- a status that neither the words nor the command file lead to
+abbrev pub IsOfDevices : Status → Type 0
+IsOfDevices Usage = ⊥
+IsOfDevices (BadFile line kind) = ⊥
+IsOfDevices SourceFault = ⊥
+IsOfDevices _ = ⊤
+
+-- a status with which a pool isn't opened
+abbrev pub IsOfOpening : Status → Type 0
+IsOfOpening ReadFault = ⊤
+IsOfOpening WriteFault = ⊤
+IsOfOpening NoPool = ⊤
+IsOfOpening (Damaged sector) = ⊤
+IsOfOpening OutOfMemory = ⊤
+IsOfOpening (PoolExists group) = ⊤
+IsOfOpening (BadSize sectors) = ⊤
+IsOfOpening (LastGroup group) = ⊤
+IsOfOpening _ = ⊥
+
+-- a status in which an item may end a session
+abbrev pub IsOfItems : Status → Type 0
+IsOfItems SinkFault = ⊤
+IsOfItems ReadFault = ⊤
+IsOfItems WriteFault = ⊤
+IsOfItems NoPool = ⊤
+IsOfItems (Damaged sector) = ⊤
+IsOfItems OutOfMemory = ⊤
+IsOfItems (LastGroup group) = ⊤
+IsOfItems _ = ⊥

@@ -8,7 +8,7 @@ ghost use Rattle.pool_model.specs.Plain.{Told, part_of, told_of};
 ghost use Rattle.pool_model.specs.Run.{pages_since};
 ghost use Rattle.session.specs.Entries.{IsOnDisk, IsOver};
 ghost use Rattle.session.specs.Items.{HasNoClashIn, ItemWent};
-ghost use Rattle.session.specs.Running.{told_in, faults_in, RoseBeyond, WentOn};
+ghost use Rattle.session.specs.Running.{told_in, faults_in, RoseBeyond, WentOn, IsOfItems};
 ghost use Rattle.io_model.specs.Outside.{Rose};
 ghost use Rattle.session.specs.declared.status.Status.{Status};
 ghost use Rattle.table_state.specs.SealForms.{last_group};
@@ -49,6 +49,7 @@ pub(crate) fn do_item<D: Disk, W: Sink, K: KeyOf>(
         × ItemWent D.clock D.left_since D.may_leave D.seen disk.old disk.new pool.old.sectors group pages (K.key_of keyer.now) (K.tag_of keyer.now) s (part_of item.now) notes
         pool.new session.new.sealed (W.written out.old) (W.written out.new) result }
     ensures ended { (image : Image) (status : Status) → D.seen disk.old ≡ Some image → IsErrOf result status → WentOn status Unit Unit }
+    ensures devices { (status : Status) → IsErrOf result status → IsOfItems status }
     ensures faults { faults_in session.old ≤ faults_in session.new }
     ensures reads { min (D.read_faults disk.old + (faults_in session.new - faults_in session.old)) (2 ^ 64 - 1) ≤ D.read_faults disk.new }
     ensures read_cause { IsErrOf result Status.ReadFault → RoseBeyond (faults_in session.new - faults_in session.old) (D.read_faults disk.old) (D.read_faults disk.new) }

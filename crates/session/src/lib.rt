@@ -9,5 +9,6 @@ mod status;
 mod words;
 
 pub use looking::inspect;
+pub use running::run;
 pub use status::{Status, fault_text};
 pub use words::{Look, Word, looking_words, running_words};

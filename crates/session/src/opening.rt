@@ -6,7 +6,7 @@ ghost use Rattle.disk_model.specs.Crashes.{NothingPending};
 ghost use Rattle.pool_model.specs.declared.notes.Session.{Session};
 ghost use Rattle.session.specs.Entries.{IsOnDisk, last_start};
 ghost use Rattle.session.specs.Opening.{Opens};
-ghost use Rattle.session.specs.Running.{HasStatusCause};
+ghost use Rattle.session.specs.Running.{HasStatusCause, IsOfOpening};
 ghost use Rattle.session.specs.declared.status.Status.{Status};
 
 use crate::status::Status;
@@ -37,7 +37,7 @@ pub(crate) fn open_pool<D: Disk, K: KeyOf>(
     ensures sized { (n : ℕ) → IsErrOf result (Status.BadSize n) → (disk.new ≡ disk.old) × (session.new.sealed ≡ 0) }
     ensures cause { (status : Status) → IsErrOf result status → HasStatusCause status word (K.tag_of keyer.now) (D.sectors_of disk.old) (D.seen disk.old)
         (D.read_faults disk.old) (D.read_faults disk.new) (D.write_faults disk.old) (D.write_faults disk.new) 0 0 0 }
-    ensures device { IsErrOf result Status.SinkFault → ⊥ }
+    ensures devices { (status : Status) → IsErrOf result status → IsOfOpening status }
     ensures reads { D.read_faults disk.old ≤ D.read_faults disk.new }
     ensures writes { D.write_faults disk.old ≤ D.write_faults disk.new }
 {

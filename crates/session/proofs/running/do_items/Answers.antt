@@ -18,8 +18,8 @@ items-preserved g c =
     let split : map part_of c.args.items.now ≡ done ++ part ∷ rest = split_at c.args.items.now c.items.item-index c.item-item.result c.items-test.true ∙ ap (λ x. done ++ part_of x ∷ rest) (sym c.item-item.is) in
     let is = subst (λ x. IsItem (part_of x)) (sym c.item-item.is) (item_at IsItem part_of c.args.items.now c.items.item-index c.item-item.result c.items-test.true c.requires.form) in
     let went = goes_more g.D.Disk.clock g.D.Disk.left_since g.D.Disk.may_leave g.D.Disk.seen (g.K.KeyOf.key_of c.args.keyer.now) (g.K.KeyOf.tag_of c.args.keyer.now) c.args.pool.now (map part_of c.args.items.now) c.args.disk.now
-        c.items.disk c.do_item-done.new.disk done part rest (told_in c.items.session) (told_in c.do_item-done.new.session) c.items.pool c.do_item-done.new.pool c.items.session.sealed c.do_item-done.new.session.sealed
-        (g.W.Sink.written c.args.out.now) (g.W.Sink.written c.items.out) (g.W.Sink.written c.do_item-done.new.out) split is c.items.invariant.going c.in_default.ensures.went in
+    c.items.disk c.do_item-done.new.disk done part rest (told_in c.items.session) (told_in c.do_item-done.new.session) c.items.pool c.do_item-done.new.pool c.items.session.sealed c.do_item-done.new.session.sealed
+    (g.W.Sink.written c.args.out.now) (g.W.Sink.written c.items.out) (g.W.Sink.written c.do_item-done.new.out) split is c.items.invariant.going c.in_default.ensures.went in
     record {
       sectors = c.in_default.ensures.sectors ∙ c.items.invariant.sectors;
       on_disk = c.in_default.ensures.on_disk;
@@ -45,7 +45,7 @@ returns-in-Err-clause-stopped g c = λ status is.
     let rest : List Part = map part_of (drop (suc c.items.item-index) c.args.items.now) in
     let split : map part_of c.args.items.now ≡ done ++ part ∷ rest = split_at c.args.items.now c.items.item-index c.item-item.result c.items-test.true ∙ ap (λ x. done ++ part_of x ∷ rest) (sym c.item-item.is) in
     subst (λ (e : Status). StopsIn g.D.Disk.clock g.D.Disk.left_since g.D.Disk.may_leave g.D.Disk.seen c.args.disk.now c.do_item-done.new.disk (g.K.KeyOf.key_of c.args.keyer.now) (g.K.KeyOf.tag_of c.args.keyer.now) c.args.pool.now
-      (map part_of c.args.items.now) (told_in c.do_item-done.new.session) c.do_item-done.new.session.sealed (g.W.Sink.written c.args.out.now) (g.W.Sink.written c.do_item-done.new.out) e) (let same : c.in-Err.status ≡ status = cc in same)
+    (map part_of c.args.items.now) (told_in c.do_item-done.new.session) c.do_item-done.new.session.sealed (g.W.Sink.written c.args.out.now) (g.W.Sink.written c.do_item-done.new.out) e) (let same : c.in-Err.status ≡ status = cc in same)
     (goes_stop g.D.Disk.clock g.D.Disk.left_since g.D.Disk.may_leave g.D.Disk.seen (g.K.KeyOf.key_of c.args.keyer.now) (g.K.KeyOf.tag_of c.args.keyer.now) c.args.pool.now (map part_of c.args.items.now) c.args.disk.now
     c.items.disk c.do_item-done.new.disk done part rest (told_in c.items.session) (told_in c.do_item-done.new.session) c.items.pool c.do_item-done.new.pool c.items.session.sealed c.do_item-done.new.session.sealed
     (g.W.Sink.written c.args.out.now) (g.W.Sink.written c.items.out) (g.W.Sink.written c.do_item-done.new.out) split c.in-Err.status c.items.invariant.going c.in-Err.ensures.went)
@@ -57,5 +57,5 @@ returns-in-Err-clause-ended g c = λ image status told is.
 pub returns-clause-done : goal.returns-clause-done
 returns-clause-done g c =
     subst (λ xs. GoesOn g.D.Disk.clock g.D.Disk.left_since g.D.Disk.may_leave g.D.Disk.seen c.args.disk.now c.items.disk (g.K.KeyOf.key_of c.args.keyer.now) (g.K.KeyOf.tag_of c.args.keyer.now) c.args.pool.now
-      (map part_of c.args.items.now) (map part_of xs) (told_in c.items.session) c.items.pool c.items.session.sealed (g.W.Sink.written c.args.out.now) (g.W.Sink.written c.items.out))
+    (map part_of c.args.items.now) (map part_of xs) (told_in c.items.session) c.items.pool c.items.session.sealed (g.W.Sink.written c.args.out.now) (g.W.Sink.written c.items.out))
     (take_all c.items.item-index c.args.items.now (omega (arith, c.items-test.false))) c.items.invariant.going
