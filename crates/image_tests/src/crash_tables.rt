@@ -96,7 +96,23 @@ fn crash_from(
     Ok(())
 }
 
-/// Does so from each call on.
+/// Does so from each of these calls on, the first to the last.
+fn crash_between(
+    rt: &impl Abort,
+    alloc: Global,
+    put: &[SlotRecord],
+    made: &[Entry],
+    calls: u64,
+    first: u64,
+    last: u64,
+) -> Result<(), Fail> {
+    for failing in first..last.saturating_add(1) {
+        crash_from(rt, alloc, put, made, calls, failing)?;
+    }
+    Ok(())
+}
+
+/// Does so from each call on, and once with no call that fails.
 fn crash_at_each_call(
     rt: &impl Abort,
     alloc: Global,
@@ -104,10 +120,24 @@ fn crash_at_each_call(
     made: &[Entry],
     calls: u64,
 ) -> Result<(), Fail> {
-    for failing in 1..calls.saturating_add(2) {
-        crash_from(rt, alloc, put, made, calls, failing)?;
-    }
-    Ok(())
+    crash_between(rt, alloc, put, made, calls, 1, calls.saturating_add(1))
+}
+
+/// Does so for a group of 200 pointers. Of its 214 calls the first is the meter, the second the closing's barrier, the
+/// third to the 202nd write blocks, and the next eight write pages: 201 slots and 201 changes, 56 a page. Then come
+/// the body, its barrier, the gate and its barrier.
+fn crash_200_between(rt: &impl Abort, alloc: Global, first: u64, last: u64) -> Result<(), Fail> {
+    let homes = two_hundred(alloc, 3)?;
+    let slots = slots_for(alloc, homes.as_slice())?;
+    crash_between(
+        rt,
+        alloc,
+        slots.as_slice(),
+        homes.as_slice(),
+        214,
+        first,
+        last,
+    )
 }
 
 #[test]
@@ -127,14 +157,16 @@ fn a_small_group_is_whole_or_not_there(rt: HostRuntime) -> Result<(), Fail> {
 }
 
 #[test]
+fn a_group_cut_short_in_its_first_100_blocks_is_not_there(rt: HostRuntime) -> Result<(), Fail> {
+    crash_200_between(&rt, rt.alloc(), 1, 102)
+}
+
+#[test]
+fn a_group_cut_short_in_its_last_100_blocks_is_not_there(rt: HostRuntime) -> Result<(), Fail> {
+    crash_200_between(&rt, rt.alloc(), 103, 202)
+}
+
+#[test]
 fn a_group_of_200_pointers_is_whole_or_not_there(rt: HostRuntime) -> Result<(), Fail> {
-    // Of its 214 calls the third to the 202nd write blocks, and the next eight write pages: 201 slots and 201 changes,
-    // 56 a page. Of either the first, one between and the last are tried; of the other calls each one.
-    let alloc = rt.alloc();
-    let homes = two_hundred(alloc, 3)?;
-    let slots = slots_for(alloc, homes.as_slice())?;
-    for failing in [1u64, 2, 3, 100, 202, 203, 206, 210, 211, 212, 213, 214, 215] {
-        crash_from(&rt, alloc, slots.as_slice(), homes.as_slice(), 214, failing)?;
-    }
-    Ok(())
+    crash_200_between(&rt, rt.alloc(), 203, 215)
 }

@@ -24,6 +24,7 @@ pub fn seal_new_pool<D: Disk>(disk: &mut D, tag: u8) -> Result<(), SealFault>
     ensures any_moment { (image : Image) → D.seen disk.old ≡ Some image → NothingPending (Some image) (D.may_leave disk.old)
         → LeavesOnly D.clock D.left_since disk.old disk.new (Beginning tag image) }
     ensures unread { IsErrOf result ReadFault → Stays (D.seen disk.old) (D.seen disk.new) }
+    ensures unread_crash { IsErrOf result ReadFault → (c : Image) → D.may_leave disk.new c → D.may_leave disk.old c }
     ensures reads { D.read_faults disk.old ≤ D.read_faults disk.new }
     ensures writes { D.write_faults disk.old ≤ D.write_faults disk.new }
     ensures read_cause { IsErrOf result ReadFault → Rose (D.read_faults disk.old) (D.read_faults disk.new) }

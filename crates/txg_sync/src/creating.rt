@@ -51,6 +51,7 @@ pub fn create<D: Disk>(alloc: Global, disk: &mut D, tag: u8) -> Result<Pool, Syn
     ensures unwritten { IsErrOf result Memory → disk.new ≡ disk.old }
     ensures whole { (sector : ℕ) → IsErrOf result (Damaged sector) → ⊥ }
     ensures unread { IsErrOf result ReadFault → Stays (D.seen disk.old) (D.seen disk.new) }
+    ensures unread_crash { IsErrOf result ReadFault → (c : Image) → D.may_leave disk.new c → D.may_leave disk.old c }
     ensures reads { D.read_faults disk.old ≤ D.read_faults disk.new }
     ensures writes { D.write_faults disk.old ≤ D.write_faults disk.new }
     ensures read_cause { IsErrOf result ReadFault → Rose (D.read_faults disk.old) (D.read_faults disk.new) }

@@ -48,6 +48,7 @@ pub fn sync<D: Disk>(
     ensures unwritten { IsErrOf result Memory → disk.new ≡ disk.old }
     ensures damaged { (sector : ℕ) → IsErrOf result (Damaged sector) → (disk.new ≡ disk.old) × (D.seen disk.old ≡ None) }
     ensures unread { IsErrOf result ReadFault → Stays (D.seen disk.old) (D.seen disk.new) }
+    ensures unread_crash { IsErrOf result ReadFault → (c : Image) → D.may_leave disk.new c → D.may_leave disk.old c }
     ensures reads { D.read_faults disk.old ≤ D.read_faults disk.new }
     ensures writes { D.write_faults disk.old ≤ D.write_faults disk.new }
     ensures read_cause { IsErrOf result ReadFault → Rose (D.read_faults disk.old) (D.read_faults disk.new) }
@@ -89,6 +90,7 @@ fn write_plan<D: Disk>(
     ensures device { IsErrOf result Memory → ⊥ }
     ensures whole { (sector : ℕ) → IsErrOf result (Damaged sector) → ⊥ }
     ensures unread { IsErrOf result ReadFault → Stays (D.seen disk.old) (D.seen disk.new) }
+    ensures unread_crash { IsErrOf result ReadFault → (c : Image) → D.may_leave disk.new c → D.may_leave disk.old c }
     ensures reads { D.read_faults disk.old ≤ D.read_faults disk.new }
     ensures writes { D.write_faults disk.old ≤ D.write_faults disk.new }
     ensures read_cause { IsErrOf result ReadFault → Rose (D.read_faults disk.old) (D.read_faults disk.new) }

@@ -20,6 +20,7 @@ pub fn take_slot<D: Disk>(disk: &mut D, slot: u32) -> Result<(), SealFault>
     ensures any_moment { (image : Image) → D.seen disk.old ≡ Some image → NothingPending (Some image) (D.may_leave disk.old)
         → LeavesOnly D.clock D.left_since disk.old disk.new (TakingLeaves slot image) }
     ensures unread { IsErrOf result ReadFault → Stays (D.seen disk.old) (D.seen disk.new) }
+    ensures unread_crash { IsErrOf result ReadFault → (c : Image) → D.may_leave disk.new c → D.may_leave disk.old c }
     ensures reads { D.read_faults disk.old ≤ D.read_faults disk.new }
     ensures writes { D.write_faults disk.old ≤ D.write_faults disk.new }
     ensures read_cause { IsErrOf result ReadFault → Rose (D.read_faults disk.old) (D.read_faults disk.new) }
