@@ -18,6 +18,10 @@ use Rattle.session.specs.declared.words.Word.TheVariants.{Run, Make}
 abbrev pub last_start : ℕ
 last_start = 2 ^ 62 - 10002
 
+-- either each disk of this kind tells its contents, or none does: what wasn't told isn't told later
+abbrev pub IsSteady : {D : Type 0} → (seen : D → Option Image) → Type 0
+IsSteady {D} seen = (a b : D) → seen a ≡ None → seen b ≡ None
+
 -- told contents are those of some pool, which the pool in memory stands for
 abbrev pub StandsForTold : Option Image → Held → Type 0
 StandsForTold None held = ⊤

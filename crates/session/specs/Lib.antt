@@ -6,3 +6,5 @@ pub mod Items
 pub mod Running
 pub mod Opening
 pub mod Looking
+pub mod Making
+pub mod Finding

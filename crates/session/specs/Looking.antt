@@ -77,3 +77,16 @@ LookCause Usage look tag sectors seen reads_before reads_now writes_before write
 LookCause (BadFile line kind) look tag sectors seen reads_before reads_now writes_before writes_now sink_before sink_now = ⊥
 LookCause SourceFault look tag sectors seen reads_before reads_now writes_before writes_now sink_before sink_now = ⊥
 LookCause (LastGroup group) look tag sectors seen reads_before reads_now writes_before writes_now sink_before sink_now = ⊥
+
+-- the statistics of this pool were written, a front of them where the output failed, and nothing without memory
+abbrev pub WritesStats : Status → Pool → (written now : Option (List ℕ)) → Type 0
+WritesStats Done pool written now = Appends written now (stat_text pool.group pool.quota (stats_of pool))
+WritesStats SinkFault pool written now = TookFront written now (stat_text pool.group pool.quota (stats_of pool))
+WritesStats _ pool written now = Keeps written now
+
+-- why the statistics weren't written; no other status comes
+abbrev pub WriteStatsCause : Status → (sink_before sink_now : ℕ) → Type 0
+WriteStatsCause Done sink_before sink_now = ⊤
+WriteStatsCause OutOfMemory sink_before sink_now = ⊤
+WriteStatsCause SinkFault sink_before sink_now = Rose sink_before sink_now
+WriteStatsCause _ sink_before sink_now = ⊥
