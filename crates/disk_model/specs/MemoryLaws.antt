@@ -1,7 +1,8 @@
 -- That what a disk in memory tells of crashes at earlier moments agrees with what it tells of a crash now.
-use Rattle.std.specs.Prelude.{◌≤◌, ℕ, List, length}
+use Rattle.std.specs.Prelude.{◌≡◌, ◌≤◌, ℕ, List, length, Option, Some, None}
 use Rattle.std.proofs.Common.{subst, sym, arith}
 use Rattle.std.proofs.lemmas.List.{take_all}
+use Rattle.std.proofs.lemmas.Option.{none-some}
 use Rattle.disk_model.specs.Images.{Image}
 use Rattle.disk_model.specs.Memory.{MemoryDisk, MayLeave, MayBeLeft, WasLeftSince, cells_after}
 use Rattle.disk_model.specs.declared.call.Call.{Call}
@@ -19,3 +20,7 @@ left_now disk since c earlier left = record {
 pub no_other : (disk : MemoryDisk) (c : Image) → WasLeftSince disk (length disk.calls) c → MayBeLeft disk c
 no_other disk c was =
     subst (λ (calls : List Call). MayLeave disk.sectors (cells_after disk.start calls) c) (take_all was.done disk.calls (omega (arith, was.no_earlier))) was.left
+
+-- contents that are told aren't untold
+pub always_told : (image other : Image) → Some image ≡ None → Some other ≡ None
+always_told image other untold = absurd (none-some image (sym untold))

@@ -1,4 +1,4 @@
-ghost use Rattle.std.specs.Prelude.{◌≡◌, ◌≤◌, ◌<◌, ◌+◌, ◌-◌, ◌^◌, ℕ, Option, min, OnOk, OnErr, IfOk};
+ghost use Rattle.std.specs.Prelude.{◌≡◌, ◌≤◌, ◌<◌, ◌+◌, ◌-◌, ◌^◌, ℕ, Option, None, min, OnOk, OnErr, IfOk};
 ghost use Rattle.disk_model.specs.Images.{Image, IsImage, Torn, Stays, Holds, MayTouch, Gives, TellsImage};
 ghost use Rattle.disk_model.specs.Crashes.{Follows, SameOutcomes, NothingPending, Elapses};
 ghost use Rattle.disk_model.specs.Faults.{HasCause};
@@ -106,6 +106,9 @@ pub trait Disk: Sync {
 
     /// A crash leaves so many whole sectors.
     ghost leaves_images: { (disk : Self) (c : Image) → may_leave disk c → IsImage (sectors_of disk) c };
+
+    /// All disks of a type tell their contents, or none does.
+    ghost tells_alike: { (disk other : Self) → seen disk ≡ None → seen other ≡ None };
 }
 
 /// What a crash at this moment may leave, for whoever puts the moments of a run together. It does
@@ -114,4 +117,5 @@ pub fn crash_laws<D: Disk>(disk: &D)
     ensures now { (c : Image) → D.left_since disk.now (D.clock disk.now) c → D.may_leave disk.now c }
     ensures counted { (since : ℕ) (c : Image) → since ≤ D.clock disk.now → D.may_leave disk.now c → D.left_since disk.now since c }
     ensures images { (c : Image) → D.may_leave disk.now c → IsImage (D.sectors_of disk.now) c }
+    ensures untold { (other : D) → D.seen disk.now ≡ None → D.seen other ≡ None }
 {}

@@ -5,7 +5,7 @@ ghost use Rattle.disk_model.specs.Faults.{HasCause, one_more};
 ghost use Rattle.disk_model.specs.Plans.{fails_read};
 ghost use Rattle.disk_model.specs.Memory.{MemoryDisk, contents, cells_of, MayBeLeft, WasLeftSince, padded, new_disk, next_fails, refused, without_memory, recorded, metered, Answers, crash_image};
 ghost use Rattle.disk_model.specs.declared.call.Call.TheVariants.{Write, Barrier};
-ghost use Rattle.disk_model.specs.MemoryLaws.{left_now, no_other};
+ghost use Rattle.disk_model.specs.MemoryLaws.{left_now, no_other, always_told};
 
 use crate::call::{Call, SectorWrite};
 use crate::crash::{crash_all, padded_copy, replay};
@@ -211,6 +211,8 @@ impl Disk for MemDisk {
     ghost only_now = { λ disk c was. no_other disk c was };
 
     ghost leaves_images = { λ disk c left. left.image };
+
+    ghost tells_alike = { λ disk other untold. always_told (contents disk) (contents other) untold };
 
     fn sectors(&self) -> u64 {
         self.cells.len() as u64

@@ -214,13 +214,13 @@ module _ (image : Image) (held : Held) (pool : Pool) (table : TableState) (is : 
 
   -- the pages of a pool in memory are those of its image, where the seal counts the changes that the table has
   pub pages_by_seal : (s : Standing) → s.pool ≡ pool → s.table ≡ table → (tag : ℕ) (state : StandsFor tag image pool table) → state.seal.active_changes ≡ length table.active → state.seal.flushing_changes ≡ length table.flush
-      → ArePages held.sectors s held.pages
+      → ArePages held.sectors (image_pages pool table) s held.pages
   pages_by_seal s same_pool same_table tag state active flushing =
-      subst (λ (p : Pool). ArePages held.sectors (record { pool = p; table = s.table; blocks = s.blocks }) held.pages) (sym same_pool)
-      (subst (λ (t : TableState). ArePages held.sectors (record { pool = pool; table = t; blocks = s.blocks }) held.pages) (sym same_table)
-      (record { count = pages_exact tag state active flushing; apart = pages_apart; unnamed = pages_nameless s.blocks; within = pages_inside }))
+      subst (λ (p : Pool). ArePages held.sectors (image_pages pool table) (record { pool = p; table = s.table; blocks = s.blocks }) held.pages) (sym same_pool)
+      (subst (λ (t : TableState). ArePages held.sectors (image_pages pool table) (record { pool = pool; table = t; blocks = s.blocks }) held.pages) (sym same_table)
+      (record { count_is = pages_exact tag state active flushing; apart = pages_apart; unnamed = pages_nameless s.blocks; within = pages_inside }))
 
   -- as it does where the image keeps the table as a sync writes it
-  pub pages_as_written : (s : Standing) → s.pool ≡ pool → s.table ≡ table → (tag : ℕ) (state : StandsFor tag image pool table) (slots : List SlotRecord) (pages : List ℕ) → state.flat ≡ flat_of slots table pages → ArePages held.sectors s held.pages
+  pub pages_as_written : (s : Standing) → s.pool ≡ pool → s.table ≡ table → (tag : ℕ) (state : StandsFor tag image pool table) (slots : List SlotRecord) (pages : List ℕ) → state.flat ≡ flat_of slots table pages → ArePages held.sectors (image_pages pool table) s held.pages
   pages_as_written s same_pool same_table tag state slots pages kept =
       pages_by_seal s same_pool same_table tag state (state.whole.active_changes ∙ ap (λ (f : Flat). length f.active) kept) (state.whole.flushing_changes ∙ ap (λ (f : Flat). length f.flushing) kept)

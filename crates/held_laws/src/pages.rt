@@ -35,8 +35,8 @@ pub fn pages_by_the_seal()
 pub fn pages_are_the_images()
     ensures by_seal { (image : Image) (held : Held) (pool : Pool) (table : TableState) → IsHeld image held pool table → (s : Standing) → s.pool ≡ pool → s.table ≡ table
         → (tag : ℕ) (state : StandsFor tag image pool table) → state.seal.active_changes ≡ length table.active → state.seal.flushing_changes ≡ length table.flush
-        → ArePages held.sectors s held.pages }
+        → ArePages held.sectors (image_pages pool table) s held.pages }
     ensures as_written { (image : Image) (held : Held) (pool : Pool) (table : TableState) → IsHeld image held pool table → (s : Standing) → s.pool ≡ pool → s.table ≡ table
         → (tag : ℕ) (state : StandsFor tag image pool table) (slots : List SlotRecord) (pages : List ℕ) → state.flat ≡ flat_of slots table pages
-        → ArePages held.sectors s held.pages }
+        → ArePages held.sectors (image_pages pool table) s held.pages }
 {}

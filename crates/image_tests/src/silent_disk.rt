@@ -35,6 +35,8 @@ impl Disk for SilentDisk {
 
     ghost leaves_images = { λ disk c left. left.image };
 
+    ghost tells_alike = { λ disk other untold. untold };
+
     fn sectors(&self) -> u64 {
         self.inner.sectors()
     }

@@ -9,6 +9,7 @@ use Rattle.pool_model.specs.Table.{found}
 use Rattle.pool_model.specs.Clash.{HasNoOther, part_trusted, contents_in}
 use Rattle.pool_model.specs.Group.{Standing, AreFresh, IsFree, lane_by_lane}
 use Rattle.pool_model.specs.Run.{AnswersAsRun, noted_course, sealed_standing}
+use Rattle.run_laws.specs.Items.{WaitingStays}
 use Rattle.table_state.specs.Pools.{Held, IsHeld}
 use Rattle.txg_sync.specs.Planning.{Group}
 use Rattle.txg_sync.specs.Syncing.{CanSync, group_pool, table_after}
@@ -44,7 +45,7 @@ KeepsWaiting image held after =
     (key : Key) (home : Home) → found after.table key ≡ Some home → home.count ≡ 0
     → (slice_index_or held.used home.place true ≡ true) × (32 ≤ home.place) × (take key.len (after.blocks home.place) ≡ take key.len (sector_at image home.place))
 
--- the group was run from this standing: its note is the run's, its fresh places were free, what it leaves can be synced, and after that sync the run's table stands, and, where no two contents clash, the run's pool
+-- the group was run from this standing: its note is the run's, its fresh places were free, what it leaves can be synced, and after that sync the run's table stands, and, where no two contents clash, the run's pool, and no home begins to wait
 pub record IsRunFrom (key_of : List ℕ → Key) (image : Image) (held : Held) (s : Standing) (moment : ℕ) (tasks : List Task) (told : Told) (group : Group) : Type 0 where
   pub answers : AnswersAsRun lane_by_lane key_of s moment tasks told
   pub fresh : AreFresh (IsFree held.sectors held.pages s) (noted_course lane_by_lane key_of s moment tasks told).given
@@ -52,3 +53,4 @@ pub record IsRunFrom (key_of : List ℕ → Key) (image : Image) (held : Held) (
   pub table_is : table_after held group ≡ (sealed_standing lane_by_lane key_of s (lanes moment tasks) told).table
   pub pool_is : HasNoClash key_of s moment tasks → group_pool image held group ≡ (sealed_standing lane_by_lane key_of s (lanes moment tasks) told).pool
   pub waiting : KeepsWaiting image held (sealed_standing lane_by_lane key_of s (lanes moment tasks) told)
+  pub waiting_stays : WaitingStays s (sealed_standing lane_by_lane key_of s (lanes moment tasks) told)

@@ -1,5 +1,9 @@
 -- Where a session's items begin: the pool in memory over the disk, and the standing that it is.
-use Rattle.std.specs.Prelude.{◌≡◌, ◌≤◌, ◌-◌, ◌^◌, ℕ, ⊤, length, Option, Some, None}
+use Rattle.std.specs.Prelude.{◌≡◌, ◌≤◌, ◌-◌, ◌^◌, ℕ, ⊤, List, length, Option, Some, None}
+use Rattle.std.specs.List.{AllByRecursion, flat_map}
+use Rattle.ddt_entry.specs.declared.key.Key.{Key}
+use Rattle.pool_model.specs.Plain.{Part}
+use Rattle.pool_model.specs.Clash.{HasNoOther, contents, part_trusted}
 use Rattle.disk_model.specs.Images.{Image, sector_at}
 use Rattle.disk_model.specs.Crashes.{NothingPending}
 use Rattle.pool_model.specs.Pool.{Pool}
@@ -17,10 +21,6 @@ use Rattle.session.specs.declared.words.Word.TheVariants.{Run, Make}
 -- the highest group from which a session goes on, so that its items stay in the numbers of groups
 abbrev pub last_start : ℕ
 last_start = 2 ^ 62 - 10002
-
--- either each disk of this kind tells its contents, or none does: what wasn't told isn't told later
-abbrev pub IsSteady : {D : Type 0} → (seen : D → Option Image) → Type 0
-IsSteady {D} seen = (a b : D) → seen a ≡ None → seen b ≡ None
 
 -- told contents are those of some pool, which the pool in memory stands for
 abbrev pub StandsForTold : Option Image → Held → Type 0
@@ -67,3 +67,7 @@ pub record IsMade (image : Image) (s : Standing) (sectors pages : ℕ) : Type 0 
 abbrev pub BeginsAt : Word → (tag : ℕ) → Image → Standing → (sectors pages : ℕ) → Type 0
 BeginsAt Run tag image s sectors pages = IsFound tag image s sectors pages
 BeginsAt Make tag image s sectors pages = IsMade image s sectors pages
+
+-- no content that the items write in a lane whose mode is on has another content of its key beside it: not among all that they write, nor in the pool where they begin, nor at a home that waits there
+abbrev pub HasNoClashFrom : (List ℕ → Key) → Standing → List Part → Type 0
+HasNoClashFrom key_of s parts = AllByRecursion (HasNoOther key_of s (contents parts)) (flat_map (part_trusted s.pool) parts)

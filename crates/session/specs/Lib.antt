@@ -8,3 +8,5 @@ pub mod Opening
 pub mod Looking
 pub mod Making
 pub mod Finding
+pub mod Going
+pub mod Stopping

@@ -8,7 +8,6 @@ use Rattle.disk_model.specs.Crashes.{NothingPending}
 use Rattle.ddt_entry.specs.declared.key.Key.{Key}
 use Rattle.pool_model.specs.declared.notes.Session.{Session}
 use Rattle.pool_model.specs.Plain.{Part, Told, told_of}
-use Rattle.pool_model.specs.Clash.{NoClash}
 use Rattle.pool_model.specs.Group.{Standing, lane_by_lane}
 use Rattle.pool_model.specs.Run.{Ended, kind_of, ended_items, last_standing, NotesRun, first_standing}
 use Rattle.pool_model.specs.Crash.{begun}
@@ -18,7 +17,7 @@ use Rattle.uber_ring.specs.Ring.{newest}
 use Rattle.uber_ring.specs.declared.seal.Seal.{Seal}
 use Rattle.table_state.specs.Flat.{HasNoPool, IsDamaged, flat_version}
 use Rattle.session.specs.Crashing.{Holds, Crashes}
-use Rattle.session.specs.Entries.{BeginsAt, IsLawfulSize, last_start}
+use Rattle.session.specs.Entries.{BeginsAt, IsLawfulSize, HasNoClashFrom, last_start}
 use Rattle.session.specs.Items.{room_from, IsLastNote, is_write_fault}
 use Rattle.session.specs.declared.status.Status.{Status}
 use Rattle.session.specs.declared.status.Status.TheVariants.{Done, Usage, BadFile, SourceFault, SinkFault, ReadFault, WriteFault, NoPool, Damaged, OutOfMemory, PoolExists, BadSize, LastGroup}
@@ -57,18 +56,21 @@ pub record HasDone (seen : Option Image) (may_leave : Image → Type 0) (key_of 
   pub disk : IsKept seen may_leave tag (last_standing s (ended_in key_of s parts session))
 
 -- the session ended in some item: the ones before it are as in a run, with their texts, and of its own text a front was written
-pub record HasStopped (key_of : List ℕ → Key) (s : Standing) (sectors pages : ℕ) (parts : List Part) (session : Session) (old new : Option (List ℕ)) : Type 0 where
+pub record HasStoppedBy (key_of : List ℕ → Key) (s : Standing) (sectors pages : ℕ) (parts : List Part) (all_notes : List Told) (old new : Option (List ℕ)) : Type 0 where
   pub finished : List Part
   pub item : Part
   pub rest : List Part
   pub parts_are : parts ≡ finished ++ item ∷ rest
   pub notes : List Told
   pub last : List Told
-  pub notes_are : told_in session ≡ notes ++ last
+  pub notes_are : all_notes ≡ notes ++ last
   pub run : NotesRun lane_by_lane (room_from sectors s.pool.group pages) key_of finished notes s
   pub last_note : IsLastNote (kind_of item) (room_from sectors s.pool.group pages) key_of (last_standing s (ended_items lane_by_lane key_of finished notes s)) item last
   pub text : TookFrontBehind old new (report (ended_items lane_by_lane key_of finished notes s))
       (report (ended_items lane_by_lane key_of (item ∷ []) last (last_standing s (ended_items lane_by_lane key_of finished notes s))))
+
+abbrev pub HasStopped : (List ℕ → Key) → Standing → (sectors pages : ℕ) → List Part → Session → (old new : Option (List ℕ)) → Type 0
+HasStopped key_of s sectors pages parts session old new = HasStoppedBy key_of s sectors pages parts (told_in session) old new
 
 -- what a session that began its items has done, by its status; no other status comes then
 abbrev pub WentOn : Status → (done stopped : Type 0) → Type 0
@@ -104,9 +106,9 @@ pub record HasBegun {D : Type 0} (clock : D → ℕ) (left_since : D → ℕ →
   pub pages : ℕ
   pub begins : BeginsAt word tag image s sectors pages
   pub ended : WentOn status ⊤ ⊤
-  pub crash : NoClash key_of s parts (ended_in key_of s parts session)
+  pub crash : HasNoClashFrom key_of s parts
       → Crashes clock left_since may_leave before after tag image (s ∷ begun lane_by_lane key_of parts (told_in session) s) (is_write_fault status) session.sealed
-  pub went : NoClash key_of s parts (ended_in key_of s parts session)
+  pub went : HasNoClashFrom key_of s parts
       → WentOn status (HasDone (seen after) (may_leave after) key_of tag s sectors pages parts session old new) (HasStopped key_of s sectors pages parts session old new)
 
 -- a pool that the image stands for, or the new pool that is made where there is none

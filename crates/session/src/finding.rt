@@ -3,7 +3,7 @@
 ghost use Rattle.std.specs.Prelude.{◌≡◌, ◌≤◌, ℕ, Some, IfOk, IsErrOf};
 ghost use Rattle.disk_model.specs.Images.{Image};
 ghost use Rattle.disk_model.specs.Crashes.{NothingPending};
-ghost use Rattle.session.specs.Entries.{IsOnDisk, IsSteady};
+ghost use Rattle.session.specs.Entries.{IsOnDisk};
 ghost use Rattle.session.specs.Finding.{Finds, FindCause, IsLeft};
 ghost use Rattle.session.specs.declared.status.Status.{Status};
 
@@ -20,7 +20,6 @@ pub(crate) fn find_pool<D: Disk, K: KeyOf>(
     disk: &mut D,
     keyer: &K,
 ) -> Result<Pool, Status>
-    requires steady { IsSteady D.seen }
     ensures sectors { D.sectors_of disk.new ≡ D.sectors_of disk.old }
     ensures on_disk { IfOk result (IsOnDisk (D.sectors_of disk.new) (D.seen disk.new) (K.tag_of keyer.now)) }
     ensures left { (image : Image) → D.seen disk.old ≡ Some image → NothingPending (Some image) (D.may_leave disk.old)

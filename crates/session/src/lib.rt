@@ -6,6 +6,7 @@ mod item;
 mod looking;
 mod making;
 mod opening;
+mod running;
 mod status;
 mod words;
 

@@ -3,7 +3,6 @@
 ghost use Rattle.std.specs.Prelude.{◌≡◌, ◌≤◌, ◌↔◌, ℕ, Some, None, map, string_bytes};
 ghost use Rattle.disk_model.specs.Images.{Image};
 ghost use Rattle.disk_model.specs.Crashes.{NothingPending};
-ghost use Rattle.session.specs.Entries.{IsSteady};
 ghost use Rattle.pool_model.specs.Pool.{Pool as PoolModel};
 ghost use Rattle.pool_model.specs.Table.{TableState};
 ghost use Rattle.table_state.specs.Pools.{IsHeld};
@@ -35,7 +34,6 @@ pub fn inspect<D: Disk, W: Sink, K: KeyOf>(
     out: &mut W,
     keyer: &K,
 ) -> Status
-    requires steady { IsSteady D.seen }
     ensures sectors { D.sectors_of disk.new ≡ D.sectors_of disk.old }
     ensures usage { (result ≡ Status.Usage) ↔ (looking_words (map string_bytes words.now) ≡ None) }
     ensures unused { result ≡ Status.Usage → (disk.new ≡ disk.old) × (out.new ≡ out.old) }
@@ -84,7 +82,6 @@ fn create_pool<D: Disk, W: Sink, K: KeyOf>(
     out: &mut W,
     keyer: &K,
 ) -> Status
-    requires steady { IsSteady D.seen }
     ensures sectors { D.sectors_of disk.new ≡ D.sectors_of disk.old }
     ensures created { (image : Image) → D.seen disk.old ≡ Some image → NothingPending (Some image) (D.may_leave disk.old)
         → Creates D.clock D.left_since D.may_leave D.seen disk.old disk.new (K.tag_of keyer.now) image (W.written out.old) (W.written out.new) result }
@@ -112,7 +109,6 @@ fn tell_pool<D: Disk, W: Sink, K: KeyOf>(
     out: &mut W,
     keyer: &K,
 ) -> Status
-    requires steady { IsSteady D.seen }
     ensures sectors { D.sectors_of disk.new ≡ D.sectors_of disk.old }
     ensures told { (image : Image) → D.seen disk.old ≡ Some image → NothingPending (Some image) (D.may_leave disk.old)
         → Tells D.clock D.left_since D.may_leave D.seen disk.old disk.new (K.tag_of keyer.now) image (W.written out.old) (W.written out.new) result }

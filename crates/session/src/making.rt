@@ -7,7 +7,7 @@ ghost use Rattle.disk_model.specs.Crashes.{LeavesOnly, NothingPending};
 ghost use Rattle.uber_ring.specs.Ring.{newest};
 ghost use Rattle.table_state.specs.Flat.{flat_version};
 ghost use Rattle.txg_sync.specs.Stages.{HasNoSeal};
-ghost use Rattle.session.specs.Entries.{IsOnDisk, IsSteady};
+ghost use Rattle.session.specs.Entries.{IsOnDisk};
 ghost use Rattle.session.specs.Making.{Makes, MakeCause};
 ghost use Rattle.session.specs.declared.status.Status.{Status};
 
@@ -24,7 +24,6 @@ const FLAT_VERSION: u32 = 0;
 /// Makes an empty pool of group 1, for a key function with this tag, which is sealed then. A size that isn't lawful
 /// is told before any device is called.
 pub(crate) fn make_pool<D: Disk>(alloc: Global, disk: &mut D, tag: u8) -> Result<Pool, Status>
-    requires steady { IsSteady D.seen }
     ensures sectors { D.sectors_of disk.new ≡ D.sectors_of disk.old }
     ensures on_disk { IfOk result (IsOnDisk (D.sectors_of disk.new) (D.seen disk.new) tag) }
     ensures first { IfOk result (λ pool. pool.group ≡ 1) }
@@ -94,7 +93,6 @@ fn group_of(found: Option<Seal>) -> Option<u64>
 
 /// Seals an empty pool on a disk on which no seal counts.
 fn seal_empty_pool<D: Disk>(alloc: Global, disk: &mut D, tag: u8) -> Result<Pool, Status>
-    requires steady { IsSteady D.seen }
     requires enough { 2048 ≤ D.sectors_of disk.old }
     requires few { D.sectors_of disk.old ≤ 1000000 }
     requires none { HasNoSeal (D.seen disk.old) }

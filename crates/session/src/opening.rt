@@ -4,7 +4,7 @@ ghost use Rattle.std.specs.Prelude.{◌≡◌, ◌≤◌, ℕ, [], Some, IfOk, I
 ghost use Rattle.disk_model.specs.Images.{Image};
 ghost use Rattle.disk_model.specs.Crashes.{NothingPending};
 ghost use Rattle.pool_model.specs.declared.notes.Session.{Session};
-ghost use Rattle.session.specs.Entries.{IsOnDisk, IsSteady, last_start};
+ghost use Rattle.session.specs.Entries.{IsOnDisk, last_start};
 ghost use Rattle.session.specs.Opening.{Opens};
 ghost use Rattle.session.specs.Running.{HasStatusCause};
 ghost use Rattle.session.specs.declared.status.Status.{Status};
@@ -33,7 +33,6 @@ pub(crate) fn open_pool<D: Disk, K: KeyOf>(
     session: &mut Session,
 ) -> Result<Pool, Status>
     requires new { session.old.sealed ≡ 0 }
-    requires steady { IsSteady D.seen }
     ensures sectors { D.sectors_of disk.new ≡ D.sectors_of disk.old }
     ensures groups { session.new.groups ≡ session.old.groups }
     ensures on_disk { IfOk result (IsOnDisk (D.sectors_of disk.new) (D.seen disk.new) (K.tag_of keyer.now)) }
@@ -62,7 +61,6 @@ fn take_up<D: Disk, K: KeyOf>(
     session: &mut Session,
 ) -> Result<Pool, Status>
     requires new { session.old.sealed ≡ 0 }
-    requires steady { IsSteady D.seen }
     ensures sectors { D.sectors_of disk.new ≡ D.sectors_of disk.old }
     ensures groups { session.new.groups ≡ session.old.groups }
     ensures on_disk { IfOk result (IsOnDisk (D.sectors_of disk.new) (D.seen disk.new) (K.tag_of keyer.now)) }
@@ -93,7 +91,6 @@ fn begin_new<D: Disk, K: KeyOf>(
     session: &mut Session,
 ) -> Result<Pool, Status>
     requires new { session.old.sealed ≡ 0 }
-    requires steady { IsSteady D.seen }
     ensures sectors { D.sectors_of disk.new ≡ D.sectors_of disk.old }
     ensures groups { session.new.groups ≡ session.old.groups }
     ensures on_disk { IfOk result (IsOnDisk (D.sectors_of disk.new) (D.seen disk.new) (K.tag_of keyer.now)) }

@@ -4,7 +4,7 @@ use Rattle.std.specs.Prelude.{nat_lt, slice_index_or}
 use Rattle.std.specs.List.{AllByRecursion, list_any}
 use Rattle.std.proofs.lemmas.Bool.{false≢true, ltb-true}
 use Rattle.std.proofs.lemmas.Bool.Decides.{nat_tests}
-use Rattle.std.proofs.lemmas.List.{length-take}
+use Rattle.std.proofs.lemmas.List.{length-append, length-take}
 use Rattle.std.proofs.lemmas.List.Sums.{sum_by-cons}
 use Rattle.grant_book.specs.Sectors.{marked, AreFirstFree, FindsFree}
 use Rattle.grant_book.proofs.FreeLaws.{IsFree, found-free, found-distinct}
@@ -36,6 +36,16 @@ pages_within_all (first ∷ lists) (suc i) records inside is =
     let whole = pages_of-cons first.items (map (λ (l : Listed (List ℕ)). l.items) lists) in
     let front = pages_of-cons first.items (map (λ (l : Listed (List ℕ)). l.items) (take i lists)) in
     omega (arith, rest, whole, front)
+
+-- chains have as many places as their records take pages
+pub places_as_pages : (parts : List ChainPart) → AllByRecursion (λ (part : ChainPart). length part.places ≡ pages_for (length part.records)) parts → length (places_in parts) ≡ pages_of (map (λ (part : ChainPart). part.records) parts)
+places_as_pages [] pages = refl
+places_as_pages (part ∷ parts) pages =
+    let rest = places_as_pages parts pages.1 in
+    let more = pages_of-cons part.records (map (λ (p : ChainPart). p.records) parts) in
+    let here : length part.places ≡ pages_for (length part.records) = pages.0 in
+    let both : length (part.places ++ places_in parts) ≡ length part.places + length (places_in parts) = length-append part.places (places_in parts) in
+    both ∙ omega (arith, rest, more, here)
 
 -- ---- Places shared out
 

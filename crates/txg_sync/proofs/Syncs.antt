@@ -14,15 +14,18 @@ use Rattle.pool_model.specs.Plain.{Stored, stored_of}
 use Rattle.pool_model.specs.Pool.{Pool}
 use Rattle.pool_model.specs.Table.{TableState}
 use Rattle.table_state.specs.Flat.{StandsFor}
-use Rattle.table_state.specs.Pools.{Held, IsHeld}
+use Rattle.table_state.specs.Pools.{Held, IsHeld, slots_after}
 use Rattle.table_state.specs.SealForms.{last_group}
 use Rattle.table_state.specs.Sound.{IsSound}
-use Rattle.table_state.specs.Sealed.{ChainPart, places_in}
+use Rattle.table_state.specs.Sealed.{ChainPart, places_in, records_in}
+use Rattle.table_state.specs.declared.slot_record.SlotRecord.{SlotRecord}
 use Rattle.table_state.proofs.FlatLaws.{one_state}
 use Rattle.table_state.proofs.Stands.{open_wider}
+use Rattle.txg_sync.specs.Placing.{pages_of}
 use Rattle.txg_sync.specs.Planning.{Group, IsPlan}
-use Rattle.txg_sync.specs.Syncing.{CanSync, CanSyncOver, IsInRange, SyncLeaves, Syncs}
+use Rattle.txg_sync.specs.Syncing.{CanSync, CanSyncOver, IsInRange, SyncLeaves, Syncs, records_after}
 use Rattle.txg_sync.specs.Writing.{group_places, with_roots, FollowsSeal, IsUnsealed, MayBeSealed, Seals, TouchesOnly}
+use Rattle.txg_sync.proofs.PlacedParts.{places_as_pages}
 use Rattle.txg_sync.proofs.Outcomes.{stands_before_gate, not_written}
 use Rattle.txg_sync.proofs.Afterwards.{AreSpelt, held_after, stands_after}
 
@@ -97,6 +100,11 @@ module _ (held : Held) (group : Group) (sound : IsSound held) (next : Held) (par
       pub while_syncing : {D : Type 0} (clock : D → ℕ) (left_since : D → ℕ → Image → Type 0) (old new : D) → LeavesOnly clock left_since old new (MayBeSealed (slot_of seal.group) group.contents parts (with_roots seal parts) image) → LeavesOnly clock left_since old new (SyncLeaves image held group pool table)
       while_syncing clock left_since old new run =
           weakened clock left_since old new (MayBeSealed (slot_of seal.group) group.contents parts (with_roots seal parts) image) (SyncLeaves image held group pool table) run leaves_of
+
+-- the pool after a plan has the pages that its chains take
+pub pages_after : (held : Held) (group : Group) (next : Held) (parts : List ChainPart) (seal : Seal) → IsPlan held group next parts seal → length next.pages ≡ pages_of (records_after held group)
+pages_after held group next parts seal plan =
+    ap (λ (pages : List ℕ). length pages) plan.is_next.pages_are ∙ places_as_pages parts plan.placed.pages ∙ ap pages_of (plan.placed.spelled ∙ ap (λ (slots : List SlotRecord). records_in slots next.table) plan.is_next.slots_are ∙ ap (records_in (slots_after group.slots held.slots)) plan.is_next.table_is)
 
 -- what holds of each stored block holds at each index of the blocks
 pub stored_at : (Q : Stored → Type 0) (contents : List StoredBlock) → AllByRecursion Q (map stored_of contents) → (k : ℕ) (d : StoredBlock) → k < length contents → Q (stored_of (get_or contents k d))

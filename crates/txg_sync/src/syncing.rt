@@ -1,4 +1,4 @@
-ghost use Rattle.std.specs.Prelude.{◌≡◌, ◌≤◌, ◌+◌, ℕ, Some, None, IfOk, OnOk, OnErr, IsErrOf};
+ghost use Rattle.std.specs.Prelude.{◌≡◌, ◌≤◌, ◌+◌, ℕ, Some, None, length, IfOk, OnOk, OnErr, IsErrOf};
 ghost use Rattle.disk_model.specs.Images.{Image, Stays};
 ghost use Rattle.disk_model.specs.Crashes.{LeavesOnly, NothingPending};
 ghost use Rattle.disk_model.specs.Faults.{Rose};
@@ -8,9 +8,10 @@ ghost use Rattle.pool_model.specs.declared.faults.SyncFault.TheVariants.{ReadFau
 ghost use Rattle.table_state.specs.Pools.{IsHeld};
 ghost use Rattle.table_state.specs.SealForms.{last_group};
 ghost use Rattle.table_state.specs.Sound.{IsSound};
+ghost use Rattle.txg_sync.specs.Placing.{pages_of};
 ghost use Rattle.txg_sync.specs.Planning.{group_in, IsNext, IsPlan};
 ghost use Rattle.txg_sync.specs.SyncFaults.{sync_fault_of};
-ghost use Rattle.txg_sync.specs.Syncing.{IsInRange, CanSync, CanSyncOver, SyncLeaves, Syncs};
+ghost use Rattle.txg_sync.specs.Syncing.{IsInRange, CanSync, CanSyncOver, SyncLeaves, Syncs, records_after};
 
 use crate::fault::SealFault;
 use crate::fits::{slots_fit, table_fits};
@@ -40,6 +41,7 @@ pub fn sync<D: Disk>(
     ensures number { IfOk result (λ number. (number ≡ pool.old.group + 1) × (number ≡ pool.new.group)) }
     ensures synced { OnOk result (Syncs (D.seen disk.old) pool.old (group_in closed.now) pool.new (D.seen disk.new)) }
     ensures made { OnOk result (IsNext pool.old (group_in closed.now) pool.new.pages pool.new) }
+    ensures pages { OnOk result (length pool.new.pages ≡ pages_of (records_after pool.old (group_in closed.now))) }
     ensures next { OnOk result (IsSound pool.new) }
     ensures kept { OnErr result (pool.new ≡ pool.old) }
     ensures durable { OnOk result (NothingPending (D.seen disk.new) (D.may_leave disk.new)) }
@@ -82,6 +84,7 @@ fn write_plan<D: Disk>(
     ensures number { IfOk result (λ number. (number ≡ pool.old.group + 1) × (number ≡ pool.new.group)) }
     ensures synced { OnOk result (Syncs (D.seen disk.old) pool.old (group_in closed.now) pool.new (D.seen disk.new)) }
     ensures made { OnOk result (IsNext pool.old (group_in closed.now) pool.new.pages pool.new) }
+    ensures pages { OnOk result (length pool.new.pages ≡ pages_of (records_after pool.old (group_in closed.now))) }
     ensures next { OnOk result (IsSound pool.new) }
     ensures kept { OnErr result (pool.new ≡ pool.old) }
     ensures durable { OnOk result (NothingPending (D.seen disk.new) (D.may_leave disk.new)) }

@@ -20,7 +20,7 @@ use Rattle.txg_sync.specs.Planning.{group_in, IsNext}
 use Rattle.txg_sync.specs.Syncing.{CanSyncOver}
 use Rattle.txg_sync.specs.Writing.{with_roots, MayBeSealed, Seals}
 use Rattle.txg_sync.proofs.Afterwards.{AreSpelt, sound_after}
-use Rattle.txg_sync.proofs.Syncs.{stored_at, seal_version_is, open_on_disk, follows_newest, syncs_of, while_syncing}
+use Rattle.txg_sync.proofs.Syncs.{stored_at, pages_after, seal_version_is, open_on_disk, follows_newest, syncs_of, while_syncing}
 use Rattle.txg_sync.proofs.syncing.write_plan.Goals as goal
 
 pub seal_group-sealed-requires-clause-follows : goal.seal_group-sealed-requires-clause-follows
@@ -90,6 +90,10 @@ returns-clause-synced g c =
 pub returns-clause-made : goal.returns-clause-made
 returns-clause-made g c =
     subst (λ (pages : List ℕ). IsNext c.args.pool.now (group_in c.args.closed.now) pages c.args.planned.next) (sym c.requires.planned.is_next.pages_are) c.requires.planned.is_next
+
+pub returns-clause-pages : goal.returns-clause-pages
+returns-clause-pages g c =
+    pages_after c.args.pool.now (group_in c.args.closed.now) c.args.planned.next c.args.planned.parts.items c.args.planned.seal c.requires.planned
 
 pub returns-clause-next : goal.returns-clause-next
 returns-clause-next g c =
