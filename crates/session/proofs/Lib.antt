@@ -1,2 +1,4 @@
 pub mod Ends
 pub mod Made
+pub mod Causes
+pub mod Opened
