@@ -33,7 +33,7 @@ group_of_held : (image : Image) (held : Held) (pool : Pool) (table : TableState)
 group_of_held image held pool table group is same = sym is.group_is ∙ sym same
 
 -- the image stands for the pool that was found
-holds_found : (may_leave : Image → Type 0) (tag : ℕ) (image : Image) (held : Held) → (there : IsThere may_leave tag image held) → StandsFor tag image there.pool there.table
+pub holds_found : (may_leave : Image → Type 0) (tag : ℕ) (image : Image) (held : Held) → (there : IsThere may_leave tag image held) → StandsFor tag image there.pool there.table
 holds_found may_leave tag image held there = subst (λ t. StandsFor t image there.pool there.table) there.tag_is there.is_held.stands
 
 -- too high a group is the image's

@@ -78,15 +78,19 @@ LookCause (BadFile line kind) look tag sectors seen reads_before reads_now write
 LookCause SourceFault look tag sectors seen reads_before reads_now writes_before writes_now sink_before sink_now = ⊥
 LookCause (LastGroup group) look tag sectors seen reads_before reads_now writes_before writes_now sink_before sink_now = ⊥
 
--- the statistics of this pool were written, a front of them where the output failed, and nothing without memory
-abbrev pub WritesStats : Status → Pool → (written now : Option (List ℕ)) → Type 0
-WritesStats Done pool written now = Appends written now (stat_text pool.group pool.quota (stats_of pool))
-WritesStats SinkFault pool written now = TookFront written now (stat_text pool.group pool.quota (stats_of pool))
-WritesStats _ pool written now = Keeps written now
+-- this text was written, a front of it where the output failed, and else nothing
+abbrev pub WritesSo : Status → (text : List ℕ) → (written now : Option (List ℕ)) → Type 0
+WritesSo Done text written now = Appends written now text
+WritesSo SinkFault text written now = TookFront written now text
+WritesSo _ text written now = Keeps written now
 
--- why the statistics weren't written; no other status comes
+-- why a text wasn't written; no other status comes
+abbrev pub WriteCause : Status → (sink_before sink_now : ℕ) → Type 0
+WriteCause Done sink_before sink_now = ⊤
+WriteCause SinkFault sink_before sink_now = Rose sink_before sink_now
+WriteCause _ sink_before sink_now = ⊥
+
+-- why statistics weren't written: there may have been no memory for them
 abbrev pub WriteStatsCause : Status → (sink_before sink_now : ℕ) → Type 0
-WriteStatsCause Done sink_before sink_now = ⊤
 WriteStatsCause OutOfMemory sink_before sink_now = ⊤
-WriteStatsCause SinkFault sink_before sink_now = Rose sink_before sink_now
-WriteStatsCause _ sink_before sink_now = ⊥
+WriteStatsCause status sink_before sink_now = WriteCause status sink_before sink_now

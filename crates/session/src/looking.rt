@@ -7,7 +7,11 @@ ghost use Rattle.pool_model.specs.Pool.{Pool as PoolModel};
 ghost use Rattle.pool_model.specs.Table.{TableState};
 ghost use Rattle.table_state.specs.Pools.{IsHeld};
 ghost use Rattle.table_state.specs.Sound.{IsSound};
-ghost use Rattle.session.specs.Looking.{Creates, Tells, LookCause, WritesStats, WriteStatsCause};
+ghost use Rattle.session.specs.Looking.{Creates, Tells, LookCause, WritesSo, WriteCause, WriteStatsCause};
+ghost use Rattle.report.specs.ItemText.{bare_text};
+ghost use Rattle.pool_model.specs.Plain.{part_of};
+ghost use Rattle.pool_model.specs.Stats.{stats_of};
+ghost use Rattle.pool_model.specs.Text.{stat_text};
 ghost use Rattle.session.specs.Words.{looking_words};
 ghost use Rattle.session.specs.declared.words.Look.{Look};
 ghost use Rattle.session.specs.declared.status.Status.{Status};
@@ -21,7 +25,7 @@ use disk_model::Disk;
 use held_stats::stats_of_pool;
 use io_model::Sink;
 use pool_model::{BUCKETS, Bucket, Item, Stats};
-use report::{text_is_of_pool, write_item};
+use report::write_item;
 use std::alloc::Global;
 use table_state::Pool;
 
@@ -92,12 +96,7 @@ fn create_pool<D: Disk, W: Sink, K: KeyOf>(
     ensures sink { W.faults out.old ≤ W.faults out.new }
 {
     match make_pool(alloc, disk, keyer.tag()) {
-        Ok(_) => {
-            let Ok(()) = write_item(out, &Item::Create, None, &no_stats(), 1, None) else {
-                return Status::SinkFault;
-            };
-            Status::Done
-        }
+        Ok(_pool) => write_text(out, &Item::Create, &no_stats(), 1, None),
         Err(status) => status,
     }
 }
@@ -127,15 +126,30 @@ fn tell_pool<D: Disk, W: Sink, K: KeyOf>(
 /// Writes the statistics of a pool.
 fn write_stats<W: Sink>(alloc: Global, pool: &Pool, out: &mut W) -> Status
     requires sound { IsSound pool.now }
-    ensures told { (image : Image) (p : PoolModel) (table : TableState) → IsHeld image pool.now p table → WritesStats result p (W.written out.old) (W.written out.new) }
+    ensures told { (image : Image) (p : PoolModel) (table : TableState) → IsHeld image pool.now p table
+        → WritesSo result (stat_text p.group p.quota (stats_of p)) (W.written out.old) (W.written out.new) }
     ensures cause { WriteStatsCause result (W.faults out.old) (W.faults out.new) }
     ensures sink { W.faults out.old ≤ W.faults out.new }
 {
-    text_is_of_pool();
     let Ok(stats) = stats_of_pool(alloc, pool) else {
         return Status::OutOfMemory;
     };
-    let Ok(()) = write_item(out, &Item::Stat, None, &stats, pool.sealed, pool.limit) else {
+    write_text(out, &Item::Stat, &stats, pool.sealed, pool.limit)
+}
+
+/// Writes the text of an item without a note.
+fn write_text<W: Sink>(
+    out: &mut W,
+    item: &Item,
+    stats: &Stats,
+    group: u64,
+    quota: Option<u64>,
+) -> Status
+    ensures text { WritesSo result (bare_text (part_of item.now) stats.now group quota) (W.written out.old) (W.written out.new) }
+    ensures cause { WriteCause result (W.faults out.old) (W.faults out.new) }
+    ensures sink { W.faults out.old ≤ W.faults out.new }
+{
+    let Ok(()) = write_item(out, item, None, stats, group, quota) else {
         return Status::SinkFault;
     };
     Status::Done
