@@ -27,6 +27,7 @@ of_status P told status is holds = subst P same holds
     same = cc is
 
 module _ (tag sectors : ℕ) (reads reads_now writes writes_now : ℕ) where
+  -- a session may end so before its items
   pub find_early : (status : Status) (seen : Option Image) → FindCause status tag seen reads reads_now writes writes_now → IsEarly status
   find_early Done seen cause = absurd cause
   find_early SinkFault seen cause = absurd cause

@@ -24,6 +24,7 @@ pub record IsThere (may_leave : Image → Type 0) (tag : ℕ) (image : Image) (h
   pub is_held : IsHeld image held pool table
   pub quiet : NothingPending (Some image) may_leave
 
+-- a pool that was found is there
 abbrev pub Finds : (may_leave : Image → Type 0) → (tag : ℕ) → Image → Result Held Status → Type 0
 Finds may_leave tag image (Ok held) = IsThere may_leave tag image held
 Finds may_leave tag image (Err status) = ⊤

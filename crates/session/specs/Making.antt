@@ -32,6 +32,7 @@ pub record IsNotMade {D : Type 0} (clock : D → ℕ) (left_since : D → ℕ �
   pub any_moment : LeavesOnly clock left_since old new (MayHold tag image stands)
   pub at_return : (c : Image) → may_leave new c → SameFound tag image c ⊎ ((is_write_fault status ≡ true) × FirstStands (Holds tag c) stands)
 
+-- what making a pool came to, by its answer
 abbrev pub Makes : {D : Type 0} → (clock : D → ℕ) (left_since : D → ℕ → Image → Type 0) (may_leave : D → Image → Type 0) (seen : D → Option Image) (old new : D) → (tag : ℕ) → Image → Result Held Status → Type 0
 Makes clock left_since may_leave seen old new tag image (Ok held) = IsNewPool clock left_since may_leave seen old new tag image held
 Makes clock left_since may_leave seen old new tag image (Err status) = IsNotMade clock left_since may_leave old new tag image status

@@ -1,5 +1,5 @@
 -- A crash leaves what stood or the new pool, by the stages of its seal.
-use Rattle.std.proofs.Common.{◌≡◌, ◌≤◌, Err, ap, subst}
+use Rattle.std.proofs.Common.{Err, ap, subst}
 use Rattle.disk_model.specs.Images.{TellsImage}
 use Rattle.session.proofs.Made.{made_there, not_made_there}
 use Rattle.session.proofs.making.seal_empty_pool.Goals as goal

@@ -1,5 +1,5 @@
 -- Why no pool was made, and what a crash leaves then.
-use Rattle.std.proofs.Common.{rules, ◌≡◌}
+use Rattle.std.proofs.Common.{rules}
 use Rattle.std.specs.Prelude.{IsErrOf}
 use Rattle.session.specs.Making.{MakeCause}
 use Rattle.session.specs.declared.status.Status.{Status}

@@ -1,5 +1,5 @@
 -- The pool that was found is the one that is opened.
-use Rattle.std.proofs.Common.{rules, ◌≡◌, ap}
+use Rattle.std.proofs.Common.{rules, ap}
 use Rattle.std.specs.Prelude.{IsErrOf}
 use Rattle.table_state.specs.Pools.{Held}
 use Rattle.session.specs.Finding.{FindCause}
