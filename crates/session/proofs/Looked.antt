@@ -1,14 +1,10 @@
 -- A pool that was created, and one that was told of.
-use Rattle.std.proofs.Common.{◌≡◌, ◌⊎◌, ℕ, true, false, List, [], ◌∷◌, length, Option, Some, None, Result, Ok, Err, refl, sym, subst, ap, ◌∙◌, inl, inr, ⊎_elim}
+use Rattle.std.proofs.Common.{◌≡◌, ◌⊎◌, ℕ, true, false, List, [], ◌∷◌, Option, refl, sym, subst, ◌∙◌, inl, inr}
 use Rattle.std.proofs.KnownBytes.{Keeps-refl}
-use Rattle.std.specs.Prelude.{codes}
-use Rattle.std.specs.Io.KnownBytes.{Appends}
-use Rattle.io_model.specs.Outside.{TookFront}
 use Rattle.disk_model.specs.Images.{Image}
-use Rattle.disk_model.specs.Crashes.{LeavesOnly, NothingPending}
 use Rattle.pool_model.specs.declared.stats.Stats.{Stats}
-use Rattle.pool_model.specs.Pool.{Pool, empty_pool}
-use Rattle.pool_model.specs.Table.{TableState, empty_table}
+use Rattle.pool_model.specs.Pool.{Pool}
+use Rattle.pool_model.specs.Table.{TableState}
 use Rattle.pool_model.specs.Group.{Standing}
 use Rattle.pool_model.specs.Stats.{stats_of}
 use Rattle.pool_model.specs.Run.{first_standing}

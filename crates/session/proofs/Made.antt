@@ -1,22 +1,19 @@
 -- What a crash leaves while a new pool is made, and which pool stands then.
-use Rattle.std.proofs.Common.{◌≡◌, ◌≤◌, ◌⊎◌, ℕ, Bool, true, List, [], ◌∷◌, length, Option, Some, None, Result, Ok, Err, IsErr, refl, sym, subst, ap, ◌∙◌, inl, inr, ⊎_elim, arith}
-use Rattle.ddt_entry.specs.declared.entry.Home.{Home}
+use Rattle.std.proofs.Common.{◌≡◌, ◌≤◌, ℕ, List, [], ◌∷◌, length, Option, Some, None, Result, Ok, Err, IsErr, refl, sym, subst, ap, ◌∙◌, inl, inr, ⊎_elim, arith}
 use Rattle.disk_model.specs.Images.{Image, IsImage, TellsImage, Stays}
 use Rattle.disk_model.specs.Crashes.{LeavesOnly, NothingPending}
 use Rattle.disk_model.proofs.Moments.{started, and_then, weakened, at_end}
 use Rattle.pool_model.specs.declared.faults.SyncFault.{SyncFault}
 use Rattle.pool_model.specs.declared.faults.SyncFault.TheVariants as syncs
-use Rattle.pool_model.specs.Pool.{Pool, empty_pool}
-use Rattle.pool_model.specs.Table.{TableState, empty_table}
 use Rattle.pool_model.specs.Group.{Standing}
 use Rattle.pool_model.specs.Run.{first_standing}
-use Rattle.lane_run.specs.Groups.{StandsOver, WaitingStand}
+use Rattle.lane_run.specs.Groups.{WaitingStand}
 use Rattle.table_state.specs.SealForms.{fewest_sectors, most_sectors}
-use Rattle.table_state.specs.Flat.{StandsFor, HasNoPool, IsDamaged}
-use Rattle.table_state.specs.Pools.{Held, IsHeld, new_held}
+use Rattle.table_state.specs.Flat.{HasNoPool}
+use Rattle.table_state.specs.Pools.{Held, new_held}
 use Rattle.txg_sync.specs.Stages.{Beginning, Creates, HasNoSeal, NoneOrEmpty}
 use Rattle.session.specs.Faults.{status_of}
-use Rattle.session.specs.Crashing.{Holds, SameFound, MayHold}
+use Rattle.session.specs.Crashing.{SameFound, MayHold}
 use Rattle.session.specs.Entries.{IsLawfulSize}
 use Rattle.session.specs.Making.{IsNewPool, IsNotMade, Makes}
 use Rattle.session.specs.declared.status.Status.{Status}

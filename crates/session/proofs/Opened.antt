@@ -1,5 +1,5 @@
 -- A session's pool, where it was opened and where it was not.
-use Rattle.std.proofs.Common.{◌≡◌, ◌≤◌, ◌<◌, ◌⊎◌, ℕ, List, [], ◌∷◌, length, Option, Some, None, Result, Ok, Err, IsErr, refl, sym, subst, ap, ◌∙◌, inl, inr, ⊎_elim, arith}
+use Rattle.std.proofs.Common.{◌≡◌, ◌≤◌, ◌<◌, ◌⊎◌, ℕ, List, [], ◌∷◌, length, Option, Some, None, Result, Ok, Err, IsErr, refl, sym, subst, ap, ◌∙◌, inl, inr}
 use Rattle.std.specs.Prelude.{IsErrOf}
 use Rattle.disk_model.specs.Images.{Image, sector_at}
 use Rattle.disk_model.specs.Crashes.{LeavesOnly, NothingPending}
@@ -12,14 +12,13 @@ use Rattle.table_state.specs.Flat.{StandsFor}
 use Rattle.table_state.specs.Pools.{Held, IsHeld}
 use Rattle.session.specs.Crashing.{Holds, MayHold}
 use Rattle.session.specs.Entries.{last_start}
-use Rattle.session.specs.Finding.{FindCause, Finds, IsLeft, IsThere}
-use Rattle.session.specs.Making.{MakeCause, Makes, IsNotMade}
+use Rattle.session.specs.Finding.{FindCause, IsLeft, IsThere}
+use Rattle.session.specs.Making.{MakeCause, Makes}
 use Rattle.session.specs.Looking.{MayBeCreated}
 use Rattle.session.specs.Opening.{IsOpened, IsNotOpened, Opens}
 use Rattle.session.specs.Running.{IsEarly, HasStatusCause, MayStand}
 use Rattle.session.specs.declared.status.Status.{Status}
 use Rattle.session.specs.declared.status.Status.TheVariants.{LastGroup}
-use Rattle.session.specs.declared.words.Word.{Word}
 use Rattle.session.specs.declared.words.Word.TheVariants.{Run, Make}
 use Rattle.session.proofs.Made.{same_as}
 use Rattle.session.proofs.Causes.{find_early, make_early}
