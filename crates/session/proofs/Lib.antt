@@ -1,5 +1,9 @@
+pub mod Causes
 pub mod Ends
-pub mod Settings
 pub mod Goings
 pub mod ItemsGone
+pub mod Looked
+pub mod Made
+pub mod Opened
 pub mod Sessions
+pub mod Settings

@@ -1,6 +1,8 @@
--- How a status is told: by a number and by a text.
+-- How a status is told: by a number and by a text; and which one a fault of the disk's is.
 use Rattle.std.specs.Prelude.{ℕ, List, [], ◌++◌, codes}
 use Rattle.std.specs.Fmt.{decimal}
+use Rattle.pool_model.specs.declared.faults.SyncFault.{SyncFault}
+use Rattle.pool_model.specs.declared.faults.SyncFault.TheVariants as syncs
 use Rattle.pool_model.specs.declared.notes.BadKind.{BadKind}
 use Rattle.pool_model.specs.declared.notes.BadKind.TheVariants.{Size, Form, Range, Many, Open}
 use Rattle.session.specs.declared.status.Status.{Status}
@@ -42,3 +44,10 @@ fault_text OutOfMemory = codes "out of memory"
 fault_text (PoolExists group) = codes "pool exists: group " ++ decimal group
 fault_text (BadSize sectors) = codes "bad size: " ++ decimal sectors
 fault_text (LastGroup group) = codes "last group: " ++ decimal group
+
+-- the status of a session that such a fault ends
+abbrev pub status_of : SyncFault → Status
+status_of syncs.ReadFault = ReadFault
+status_of syncs.WriteFault = WriteFault
+status_of (syncs.Damaged sector) = Damaged sector
+status_of syncs.Memory = OutOfMemory

@@ -6,5 +6,7 @@ pub mod Items
 pub mod Running
 pub mod Opening
 pub mod Looking
+pub mod Making
+pub mod Finding
 pub mod Going
 pub mod Stopping

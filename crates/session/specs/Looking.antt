@@ -3,7 +3,7 @@ use Rattle.std.specs.Prelude.{◌≡◌, ◌⊎◌, ℕ, ⊤, List, [], ◌∷�
 use Rattle.std.specs.Io.KnownBytes.{Keeps, Appends}
 use Rattle.io_model.specs.Outside.{Rose, TookFront}
 use Rattle.disk_model.specs.Images.{Image}
-use Rattle.disk_model.specs.Crashes.{LeavesOnly, NothingPending}
+use Rattle.disk_model.specs.Crashes.{LeavesOnly}
 use Rattle.pool_model.specs.Pool.{Pool}
 use Rattle.pool_model.specs.Table.{TableState}
 use Rattle.pool_model.specs.Group.{Standing}
@@ -77,3 +77,20 @@ LookCause Usage look tag sectors seen reads_before reads_now writes_before write
 LookCause (BadFile line kind) look tag sectors seen reads_before reads_now writes_before writes_now sink_before sink_now = ⊥
 LookCause SourceFault look tag sectors seen reads_before reads_now writes_before writes_now sink_before sink_now = ⊥
 LookCause (LastGroup group) look tag sectors seen reads_before reads_now writes_before writes_now sink_before sink_now = ⊥
+
+-- this text was written, a front of it where the output failed, and else nothing
+abbrev pub WritesSo : Status → (text : List ℕ) → (written now : Option (List ℕ)) → Type 0
+WritesSo Done text written now = Appends written now text
+WritesSo SinkFault text written now = TookFront written now text
+WritesSo _ text written now = Keeps written now
+
+-- why a text wasn't written; no other status comes
+abbrev pub WriteCause : Status → (sink_before sink_now : ℕ) → Type 0
+WriteCause Done sink_before sink_now = ⊤
+WriteCause SinkFault sink_before sink_now = Rose sink_before sink_now
+WriteCause _ sink_before sink_now = ⊥
+
+-- why statistics weren't written: there may have been no memory for them
+abbrev pub WriteStatsCause : Status → (sink_before sink_now : ℕ) → Type 0
+WriteStatsCause OutOfMemory sink_before sink_now = ⊤
+WriteStatsCause status sink_before sink_now = WriteCause status sink_before sink_now

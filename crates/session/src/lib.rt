@@ -1,8 +1,10 @@
 //! A whole session over a disk: from the words and the bytes of a command file to the bytes of its report.
 #![tactic(auto)]
 
+mod finding;
 mod item;
 mod looking;
+mod making;
 mod opening;
 mod running;
 mod status;

@@ -3,16 +3,31 @@
 ghost use Rattle.std.specs.Prelude.{◌≡◌, ◌≤◌, ◌↔◌, ℕ, Some, None, map, string_bytes};
 ghost use Rattle.disk_model.specs.Images.{Image};
 ghost use Rattle.disk_model.specs.Crashes.{NothingPending};
-ghost use Rattle.session.specs.Looking.{Creates, Tells, LookCause};
+ghost use Rattle.pool_model.specs.Pool.{Pool as PoolModel};
+ghost use Rattle.pool_model.specs.Plain.{part_of};
+ghost use Rattle.pool_model.specs.Table.{TableState};
+ghost use Rattle.pool_model.specs.Stats.{stats_of};
+ghost use Rattle.pool_model.specs.Text.{stat_text};
+ghost use Rattle.table_state.specs.Pools.{IsHeld};
+ghost use Rattle.table_state.specs.Sound.{IsSound};
+ghost use Rattle.report.specs.ItemText.{bare_text};
+ghost use Rattle.session.specs.Looking.{Creates, Tells, LookCause, WritesSo, WriteCause, WriteStatsCause};
 ghost use Rattle.session.specs.Words.{looking_words};
 ghost use Rattle.session.specs.declared.words.Look.{Look};
 ghost use Rattle.session.specs.declared.status.Status.{Status};
 
+use crate::finding::find_pool;
+use crate::making::make_pool;
 use crate::status::Status;
+use crate::words::{Look, looking_words};
 use ddt_entry::KeyOf;
 use disk_model::Disk;
+use held_stats::stats_of_pool;
 use io_model::Sink;
+use pool_model::{BUCKETS, Bucket, Item, Stats};
+use report::write_item;
 use std::alloc::Global;
+use table_state::Pool;
 
 /// Creates a pool (`create`), or tells of the one on the disk (`stat`), by the words behind the image on the command
 /// line. It waits for nobody.
@@ -36,5 +51,106 @@ pub fn inspect<D: Disk, W: Sink, K: KeyOf>(
     ensures writes { D.write_faults disk.old ≤ D.write_faults disk.new }
     ensures sink { W.faults out.old ≤ W.faults out.new }
 {
-    Status::OutOfMemory
+    match looking_words(words) {
+        None => Status::Usage,
+        Some(Look::Create) => create_pool(alloc, disk, out, keyer),
+        Some(Look::Stat) => tell_pool(alloc, disk, out, keyer),
+    }
+}
+
+/// No statistics: a created pool is told without them.
+fn no_stats() -> Stats {
+    let bucket = Bucket {
+        low: 0,
+        keys: 0,
+        allocated: 0,
+        referenced: 0,
+    };
+    Stats {
+        keys: 0,
+        unique: 0,
+        duplicate: 0,
+        refs: 0,
+        loose: 0,
+        plain: 0,
+        allocated: 0,
+        referenced: 0,
+        buckets: [bucket; BUCKETS],
+    }
+}
+
+/// Creates a pool, and writes that it was.
+fn create_pool<D: Disk, W: Sink, K: KeyOf>(
+    alloc: Global,
+    disk: &mut D,
+    out: &mut W,
+    keyer: &K,
+) -> Status
+    ensures sectors { D.sectors_of disk.new ≡ D.sectors_of disk.old }
+    ensures created { (image : Image) → D.seen disk.old ≡ Some image → NothingPending (Some image) (D.may_leave disk.old)
+        → Creates D.clock D.left_since D.may_leave D.seen disk.old disk.new (K.tag_of keyer.now) image (W.written out.old) (W.written out.new) result }
+    ensures cause { LookCause result Look.Create (K.tag_of keyer.now) (D.sectors_of disk.old) (D.seen disk.old)
+        (D.read_faults disk.old) (D.read_faults disk.new) (D.write_faults disk.old) (D.write_faults disk.new) (W.faults out.old) (W.faults out.new) }
+    ensures reads { D.read_faults disk.old ≤ D.read_faults disk.new }
+    ensures writes { D.write_faults disk.old ≤ D.write_faults disk.new }
+    ensures sink { W.faults out.old ≤ W.faults out.new }
+{
+    match make_pool(alloc, disk, keyer.tag()) {
+        Ok(_pool) => write_text(out, &Item::Create, &no_stats(), 1, None),
+        Err(status) => status,
+    }
+}
+
+/// Writes the statistics of the pool that is on the disk.
+fn tell_pool<D: Disk, W: Sink, K: KeyOf>(
+    alloc: Global,
+    disk: &mut D,
+    out: &mut W,
+    keyer: &K,
+) -> Status
+    ensures sectors { D.sectors_of disk.new ≡ D.sectors_of disk.old }
+    ensures told { (image : Image) → D.seen disk.old ≡ Some image → NothingPending (Some image) (D.may_leave disk.old)
+        → Tells D.clock D.left_since D.may_leave D.seen disk.old disk.new (K.tag_of keyer.now) image (W.written out.old) (W.written out.new) result }
+    ensures cause { LookCause result Look.Stat (K.tag_of keyer.now) (D.sectors_of disk.old) (D.seen disk.old)
+        (D.read_faults disk.old) (D.read_faults disk.new) (D.write_faults disk.old) (D.write_faults disk.new) (W.faults out.old) (W.faults out.new) }
+    ensures reads { D.read_faults disk.old ≤ D.read_faults disk.new }
+    ensures writes { D.write_faults disk.old ≤ D.write_faults disk.new }
+    ensures sink { W.faults out.old ≤ W.faults out.new }
+{
+    match find_pool(alloc, disk, keyer) {
+        Ok(pool) => write_stats(alloc, &pool, out),
+        Err(status) => status,
+    }
+}
+
+/// Writes the statistics of a pool.
+fn write_stats<W: Sink>(alloc: Global, pool: &Pool, out: &mut W) -> Status
+    requires sound { IsSound pool.now }
+    ensures told { (image : Image) (p : PoolModel) (table : TableState) → IsHeld image pool.now p table
+        → WritesSo result (stat_text p.group p.quota (stats_of p)) (W.written out.old) (W.written out.new) }
+    ensures cause { WriteStatsCause result (W.faults out.old) (W.faults out.new) }
+    ensures sink { W.faults out.old ≤ W.faults out.new }
+{
+    let Ok(stats) = stats_of_pool(alloc, pool) else {
+        return Status::OutOfMemory;
+    };
+    write_text(out, &Item::Stat, &stats, pool.sealed, pool.limit)
+}
+
+/// Writes the text of an item without a note.
+fn write_text<W: Sink>(
+    out: &mut W,
+    item: &Item,
+    stats: &Stats,
+    group: u64,
+    quota: Option<u64>,
+) -> Status
+    ensures text { WritesSo result (bare_text (part_of item.now) stats.now group quota) (W.written out.old) (W.written out.new) }
+    ensures cause { WriteCause result (W.faults out.old) (W.faults out.new) }
+    ensures sink { W.faults out.old ≤ W.faults out.new }
+{
+    let Ok(()) = write_item(out, item, None, stats, group, quota) else {
+        return Status::SinkFault;
+    };
+    Status::Done
 }

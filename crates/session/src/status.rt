@@ -1,7 +1,7 @@
 ghost use Rattle.std.specs.Prelude.{◌≡◌, ◌++◌, IfOk, string_bytes, codes, decimal};
-ghost use Rattle.session.specs.Faults.{code_of, fault_text, kind_name};
+ghost use Rattle.session.specs.Faults.{code_of, fault_text, kind_name, status_of};
 
-use pool_model::BadKind;
+use pool_model::{BadKind, SyncFault};
 use std::alloc::{AllocError, Global};
 
 /// How a session ended.
@@ -55,6 +55,18 @@ impl Status {
             Status::BadSize(_) => 11,
             Status::LastGroup(_) => 13,
         }
+    }
+}
+
+/// The status of a session that a fault of the disk ends.
+pub(crate) fn told(fault: SyncFault) -> Status
+    ensures { result ≡ status_of fault }
+{
+    match fault {
+        SyncFault::ReadFault => Status::ReadFault,
+        SyncFault::WriteFault => Status::WriteFault,
+        SyncFault::Damaged(sector) => Status::Damaged(sector),
+        SyncFault::Memory => Status::OutOfMemory,
     }
 }
 
