@@ -6,7 +6,7 @@ use Rattle.io_model.specs.Outside.{Rose}
 use Rattle.session.specs.Finding.{FindCause}
 use Rattle.session.specs.Making.{MakeCause}
 use Rattle.session.specs.Looking.{LookCause}
-use Rattle.session.specs.Running.{IsEarly, RoseBeyond, HasStatusCause}
+use Rattle.session.specs.Running.{IsEarly, IsOfOpening, RoseBeyond, HasStatusCause}
 use Rattle.session.specs.declared.status.Status.{Status}
 use Rattle.session.specs.declared.status.Status.TheVariants.{Done, Usage, BadFile, SourceFault, SinkFault, ReadFault, WriteFault, NoPool, Damaged, OutOfMemory, PoolExists, BadSize, LastGroup}
 use Rattle.session.specs.declared.words.Word.TheVariants.{Run, Make}
@@ -128,3 +128,35 @@ module _ (tag sectors : ℕ) (reads reads_now writes writes_now : ℕ) where
     create_cause NoPool seen cause = absurd cause
     create_cause (Damaged sector) seen cause = absurd cause
     create_cause (LastGroup group) seen cause = absurd cause
+
+-- a pool that wasn't found, or wasn't made, isn't opened so
+module _ (tag sectors : ℕ) (seen : Option Image) (reads reads_now writes writes_now : ℕ) where
+  pub find_devices : (status : Status) → FindCause status tag seen reads reads_now writes writes_now → IsOfOpening status
+  find_devices Done cause = absurd cause
+  find_devices Usage cause = absurd cause
+  find_devices (BadFile line kind) cause = absurd cause
+  find_devices SourceFault cause = absurd cause
+  find_devices SinkFault cause = absurd cause
+  find_devices ReadFault cause = tt
+  find_devices WriteFault cause = tt
+  find_devices NoPool cause = tt
+  find_devices (Damaged sector) cause = tt
+  find_devices OutOfMemory cause = tt
+  find_devices (PoolExists group) cause = tt
+  find_devices (BadSize n) cause = tt
+  find_devices (LastGroup group) cause = tt
+
+  pub make_devices : (status : Status) → MakeCause status sectors seen reads reads_now writes writes_now → IsOfOpening status
+  make_devices Done cause = absurd cause
+  make_devices Usage cause = absurd cause
+  make_devices (BadFile line kind) cause = absurd cause
+  make_devices SourceFault cause = absurd cause
+  make_devices SinkFault cause = absurd cause
+  make_devices ReadFault cause = tt
+  make_devices WriteFault cause = tt
+  make_devices NoPool cause = tt
+  make_devices (Damaged sector) cause = tt
+  make_devices OutOfMemory cause = tt
+  make_devices (PoolExists group) cause = tt
+  make_devices (BadSize n) cause = tt
+  make_devices (LastGroup group) cause = tt

@@ -7,7 +7,7 @@ use Rattle.session.specs.declared.status.Status.{Status}
 use Rattle.session.specs.declared.status.Status.TheVariants.{SinkFault, BadSize, LastGroup}
 use Rattle.session.specs.declared.words.Word.TheVariants.{Run}
 use Rattle.session.specs.Running.{HasStatusCause}
-use Rattle.session.proofs.Causes.{of_status, run_cause}
+use Rattle.session.proofs.Causes.{find_devices, of_status, run_cause}
 use Rattle.session.proofs.Opened.{is_open, last_group_cause, not_found_at, too_late}
 use Rattle.session.proofs.opening.take_up.Goals as goal
 
@@ -27,10 +27,10 @@ returns-in_err-pool-clause-cause g c status is =
     let causes : (status : Status) → IsErrOf c.from_residual.result status → FindCause status (g.K.KeyOf.tag_of c.args.keyer.now) (g.D.Disk.seen c.args.disk.now) (g.D.Disk.read_faults c.args.disk.now) (g.D.Disk.read_faults c.find_pool.new.disk) (g.D.Disk.write_faults c.args.disk.now) (g.D.Disk.write_faults c.find_pool.new.disk) = search rules in
     run_cause (g.K.KeyOf.tag_of c.args.keyer.now) (g.D.Disk.sectors_of c.args.disk.now) (g.D.Disk.read_faults c.args.disk.now) (g.D.Disk.read_faults c.find_pool.new.disk) (g.D.Disk.write_faults c.args.disk.now) (g.D.Disk.write_faults c.find_pool.new.disk) status (g.D.Disk.seen c.args.disk.now) (causes status is)
 
-pub returns-in_err-pool-clause-device : goal.returns-in_err-pool-clause-device
-returns-in_err-pool-clause-device g c is =
+pub returns-in_err-pool-clause-devices : goal.returns-in_err-pool-clause-devices
+returns-in_err-pool-clause-devices g c status is =
     let causes : (status : Status) → IsErrOf c.from_residual.result status → FindCause status (g.K.KeyOf.tag_of c.args.keyer.now) (g.D.Disk.seen c.args.disk.now) (g.D.Disk.read_faults c.args.disk.now) (g.D.Disk.read_faults c.find_pool.new.disk) (g.D.Disk.write_faults c.args.disk.now) (g.D.Disk.write_faults c.find_pool.new.disk) = search rules in
-    absurd (causes SinkFault is)
+    find_devices (g.K.KeyOf.tag_of c.args.keyer.now) (g.D.Disk.sectors_of c.args.disk.now) (g.D.Disk.seen c.args.disk.now) (g.D.Disk.read_faults c.args.disk.now) (g.D.Disk.read_faults c.find_pool.new.disk) (g.D.Disk.write_faults c.args.disk.now) (g.D.Disk.write_faults c.find_pool.new.disk) status (causes status is)
 
 pub returns-then-pool-gt-LAST_START-clause-opened : goal.returns-then-pool-gt-LAST_START-clause-opened
 returns-then-pool-gt-LAST_START-clause-opened g c image told pending =
