@@ -1,1 +1,4 @@
-pub mod Appended
+pub mod Rooms
+pub mod SyncedPools
+pub mod Sealing
+pub mod Unsealed

@@ -1,6 +1,7 @@
 //! A whole session over a disk: from the words and the bytes of a command file to the bytes of its report.
 #![tactic(auto)]
 
+mod group_item;
 mod item;
 mod looking;
 mod opening;
