@@ -2,3 +2,4 @@ pub mod Rooms
 pub mod SyncedPools
 pub mod Sealing
 pub mod Unsealed
+pub mod ItemEnds

@@ -1,8 +1,9 @@
 -- What a group comes to before its text is written: it ended, or the session ends in it.
-use Rattle.std.specs.Prelude.{◌≡◌, ◌≤◌, ◌+◌, ℕ, not, sum_by, List, [], ◌∷◌, length, Option, Some, None, Result, Ok, Err}
+use Rattle.std.specs.Prelude.{◌≡◌, ◌≤◌, ◌+◌, ℕ, not, sum_by, List, [], ◌∷◌, length, Option, Some, None, Result, Ok, Err, IsErrOf}
 use Rattle.std.specs.List.{count_by}
 use Rattle.disk_model.specs.Images.{Image}
 use Rattle.disk_model.specs.Crashes.{LeavesOnly}
+use Rattle.disk_model.specs.declared.disk.Failed.{Failed}
 use Rattle.ddt_entry.specs.declared.key.Key.{Key}
 use Rattle.pool_model.specs.declared.faults.GroupFault.{GroupFault}
 use Rattle.pool_model.specs.declared.faults.GroupFault.TheVariants as groups
@@ -17,6 +18,7 @@ use Rattle.pool_model.specs.Run.{pages_since, IsGroupNote, noted_standing}
 use Rattle.pool_model.specs.Crash.{AnyStands, StandsAt, begun}
 use Rattle.pool_model.specs.Space.{need, space_lacking, changes_in, writes_in}
 use Rattle.pool_model.specs.Table.{flush_limit}
+use Rattle.report.specs.Writes.{Wrote}
 use Rattle.table_state.specs.Pools.{Held}
 use Rattle.txg_sync.specs.Planning.{Group}
 use Rattle.lane_run.specs.Groups.{HasNoClash, IsRunFrom}
@@ -24,7 +26,7 @@ use Rattle.session.specs.Crashing.{Holds}
 use Rattle.session.specs.Entries.{IsOver}
 use Rattle.session.specs.Items.{room_from, IsCutNote, KeepsApart, is_write_fault}
 use Rattle.session.specs.declared.status.Status.{Status}
-use Rattle.session.specs.declared.status.Status.TheVariants.{ReadFault, WriteFault, Damaged, OutOfMemory}
+use Rattle.session.specs.declared.status.Status.TheVariants.{SinkFault, ReadFault, WriteFault, Damaged, OutOfMemory}
 
 -- how a group that wasn't run is noted: it had no room, or it was cut
 abbrev pub outcome_by : GroupFault → Outcome
@@ -57,6 +59,11 @@ status_by syncs.ReadFault = ReadFault
 status_by syncs.WriteFault = WriteFault
 status_by (syncs.Damaged sector) = Damaged sector
 status_by syncs.Memory = OutOfMemory
+
+-- and by a text that could not be written
+abbrev pub ended_by : Result Unit Failed → Result Unit Status
+ended_by (Ok done) = Ok tt
+ended_by (Err failed) = Err SinkFault
 
 -- the note of a group that has not done anything
 abbrev pub new_told : (number : ℕ) → Outcome → Told
@@ -93,3 +100,9 @@ abbrev pub GroupWent : {D : Type 0} → (clock : D → ℕ) (left_since : D → 
     → (sectors group pages : ℕ) → (List ℕ → Key) → (tag : ℕ) → Standing → Part → Told → Held → Result Unit Status → Type 0
 GroupWent clock left_since may_leave seen old new sectors group pages key_of tag s part told held (Ok done) = GroupEnded clock left_since may_leave seen old new sectors group pages key_of tag s part told held
 GroupWent clock left_since may_leave seen old new sectors group pages key_of tag s part told held (Err status) = GroupCut clock left_since may_leave old new sectors group pages key_of tag s part told status
+
+-- what was written of a group by how it ended, and which group is then the session's newest
+abbrev pub TellsGroup : (ended : Result Unit Status) → (number before sealed : ℕ) → (written now : Option (List ℕ)) → (faults faults_now : ℕ) → (text : List ℕ) → (result : Result Unit Status) → Type 0
+TellsGroup (Ok done) number before sealed written now faults faults_now text result =
+    (sealed ≡ number) × Wrote written now faults faults_now text result × ((status : Status) → IsErrOf result status → status ≡ SinkFault)
+TellsGroup (Err status) number before sealed written now faults faults_now text result = (sealed ≡ before) × (now ≡ written) × (result ≡ Err status)

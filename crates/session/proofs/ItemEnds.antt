@@ -1,0 +1,90 @@
+-- How an item ends a session or lets it go on, once its text is written.
+use Rattle.std.proofs.Common.{◌≡◌, ◌∙◌, ◌≤◌, ◌+◌, ℕ, Bool, true, false, Option, Some, None, Result, Ok, Err, List, [], ◌∷◌, ◌++◌, length, take, append-nil, refl, sym, ap, subst, inl, inr, ⊎_elim, arith}
+use Rattle.std.specs.Prelude.{OnOk, IsErrOf}
+use Rattle.std.specs.Io.KnownBytes.{Appends}
+use Rattle.std.proofs.KnownBytes.{Appends-nil}
+use Rattle.io_model.specs.Outside.{TookFront}
+use Rattle.disk_model.specs.Images.{Image}
+use Rattle.disk_model.specs.Crashes.{LeavesOnly}
+use Rattle.disk_model.proofs.Moments.{weakened}
+use Rattle.ddt_entry.specs.declared.key.Key.{Key}
+use Rattle.pool_model.specs.declared.notes.Kind.TheVariants.{Lanes}
+use Rattle.pool_model.specs.declared.notes.Outcome.{Outcome}
+use Rattle.pool_model.specs.declared.notes.Outcome.TheVariants.{Sealed, NoSpace, Cut}
+use Rattle.pool_model.specs.Plain.{Task, Part, lanes, stat, «import», Told}
+use Rattle.pool_model.specs.Group.{Standing, lane_by_lane}
+use Rattle.pool_model.specs.Run.{Order, DidPart, standing_by, noted_standing, sealed_standing, pages_since}
+use Rattle.pool_model.specs.Crash.{AnyStands, StandsAt, begun, begun_by}
+use Rattle.pool_model.specs.Text.{group_text, plain_text}
+use Rattle.report.specs.Writes.{Wrote}
+use Rattle.table_state.specs.Flat.{StandsFor}
+use Rattle.table_state.specs.Pools.{Held}
+use Rattle.session.specs.Crashing.{Holds}
+use Rattle.session.specs.Entries.{IsOver}
+use Rattle.session.specs.Groups.{GroupEnded, GroupCut, GroupWent, TellsGroup}
+use Rattle.session.specs.Items.{ItemWent, ItemDone, ItemCut, is_write_fault}
+use Rattle.session.specs.declared.status.Status.{Status}
+use Rattle.session.specs.declared.status.Status.TheVariants.{SinkFault}
+
+-- a text is all that is written of an item
+pub took_all : (written now : Option (List ℕ)) (text : List ℕ) → TookFront written now text → TookFront written now (text ++ [])
+took_all written now text took = subst (TookFront written now) (sym (append-nil text)) took
+
+-- nothing was written
+pub took_none : (written now : Option (List ℕ)) (text : List ℕ) → now ≡ written → TookFront written now text
+took_none written now text same = (0, omega arith, subst (λ (o : Option (List ℕ)). Appends written o []) (sym same) (Appends-nil written))
+
+-- what stands after a group that ended stands at its number
+ended_at : (o : Outcome) (order : Order) (key_of : List ℕ → Key) (s : Standing) (part : Part) (told : Told) (stands : Standing → Type 0) (sealed : ℕ) (rest : List Standing) → DidPart o order key_of s part told
+    → stands (standing_by o s (sealed_standing order key_of s part told)) → (standing_by o s (sealed_standing order key_of s part told)).pool.group ≡ sealed → StandsAt stands false sealed (s ∷ begun_by o order key_of s part told ++ rest)
+ended_at Sealed order key_of s part told stands sealed rest did here number = inr (inl (number, inl here))
+ended_at (NoSpace need left) order key_of s part told stands sealed rest did here number = inl (number, inl here)
+ended_at Cut order key_of s part told stands sealed rest did here number = absurd did
+
+module _ {D : Type 0} (clock : D → ℕ) (left_since : D → ℕ → Image → Type 0) (may_leave : D → Image → Type 0) (seen : D → Option Image) (old new : D) (sectors group pages : ℕ) (key_of : List ℕ → Key) (tag : ℕ) (s : Standing) (held : Held) where
+  -- after a group
+  module _ (moment : ℕ) (tasks : List Task) (told : Told) where
+    abbrev part : Part
+    part = lanes moment tasks
+
+    abbrev after : Standing
+    after = noted_standing lane_by_lane key_of s part told
+
+    pub group_told : (number before sealed : ℕ) (written now : Option (List ℕ)) (faults faults_now : ℕ) (result : Result Unit Status) → GroupEnded clock left_since may_leave seen old new sectors group pages key_of tag s part told held
+        → held.tag ≡ tag → number ≡ held.group → TellsGroup (Ok tt) number before sealed written now faults faults_now (group_text part told told.outcome) result
+        → ItemWent clock left_since may_leave seen old new sectors group pages key_of tag s part (told ∷ []) held sealed written now result
+    group_told number before sealed written now faults faults_now (Ok done) ended tag_is number_is tells = record {
+      notes = (ended.note, refl);
+      over = ended.over;
+      sealed_is = tells.0 ∙ number_is ∙ ended.over.stands.is_held.group_is;
+      text = subst (Appends written now) (sym (append-nil (group_text part told told.outcome))) tells.1.all;
+      others = ended.others;
+      crash = ended.crash;
+    }
+    group_told number before sealed written now faults faults_now (Err status) ended tag_is number_is tells = record {
+      notes = (told, refl, inl ended.note);
+      text = took_all written now (group_text part told told.outcome) tells.1.front;
+      crash = ended.crash;
+      at_return = λ c left. subst (λ (b : Bool). StandsAt (Holds tag c) b sealed (s ∷ begun lane_by_lane key_of (part ∷ []) (told ∷ []) s)) (ap is_write_fault (sym (tells.2 status refl)))
+          (ended_at told.outcome lane_by_lane key_of s part told (Holds tag c) sealed [] ended.note.did (holds c left) (sym (tells.0 ∙ number_is ∙ ended.over.stands.is_held.group_is)));
+    }
+      where
+        holds : (c : Image) → may_leave new c → Holds tag c after
+        holds c left = subst (λ (d : Image). Holds tag d after) (sym (ended.over.quiet.1 c left)) (subst (λ t. StandsFor t ended.over.image after.pool after.table) tag_is ended.over.stands.is_held.stands)
+
+    pub group_stopped : (number before sealed : ℕ) (written now : Option (List ℕ)) (faults faults_now : ℕ) (status : Status) (result : Result Unit Status) → GroupCut clock left_since may_leave old new sectors group pages key_of tag s part told status
+        → before ≡ s.pool.group → TellsGroup (Err status) number before sealed written now faults faults_now (group_text part told told.outcome) result
+        → ItemWent clock left_since may_leave seen old new sectors group pages key_of tag s part (told ∷ []) held sealed written now result
+    group_stopped number before sealed written now faults faults_now status result cut before_is tells =
+        subst (λ (r : Result Unit Status). ItemWent clock left_since may_leave seen old new sectors group pages key_of tag s part (told ∷ []) held sealed written now r) (sym tells.2) (record {
+          notes = (told, refl, inr cut.note);
+          text = took_none written now _ tells.1;
+          crash = cut.crash;
+          at_return = λ c left. subst (λ n. StandsAt (Holds tag c) (is_write_fault status) n (s ∷ begun lane_by_lane key_of (part ∷ []) (told ∷ []) s)) (sym (tells.0 ∙ before_is)) (cut.at_return c left);
+        })
+
+    pub group_went : (number before sealed : ℕ) (written now : Option (List ℕ)) (faults faults_now : ℕ) (ended result : Result Unit Status) → GroupWent clock left_since may_leave seen old new sectors group pages key_of tag s part told held ended
+        → OnOk ended (held.tag ≡ tag) → number ≡ held.group → before ≡ s.pool.group → TellsGroup ended number before sealed written now faults faults_now (group_text part told told.outcome) result
+        → ItemWent clock left_since may_leave seen old new sectors group pages key_of tag s part (told ∷ []) held sealed written now result
+    group_went number before sealed written now faults faults_now (Ok done) result went tag_is number_is before_is tells = group_told number before sealed written now faults faults_now result went tag_is number_is tells
+    group_went number before sealed written now faults faults_now (Err status) result went tag_is number_is before_is tells = group_stopped number before sealed written now faults faults_now status result went before_is tells
