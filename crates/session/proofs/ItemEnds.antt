@@ -88,3 +88,8 @@ module _ {D : Type 0} (clock : D → ℕ) (left_since : D → ℕ → Image → 
         → ItemWent clock left_since may_leave seen old new sectors group pages key_of tag s part (told ∷ []) held sealed written now result
     group_went number before sealed written now faults faults_now (Ok done) result went tag_is number_is before_is tells = group_told number before sealed written now faults faults_now result went tag_is number_is tells
     group_went number before sealed written now faults faults_now (Err status) result went tag_is number_is before_is tells = group_stopped number before sealed written now faults faults_now status result went before_is tells
+
+-- what follows of a call that went well
+pub on_ok : {T E : Type 0} (result : Result T E) (P Q : Type 0) → (P → Q) → OnOk result P → OnOk result Q
+on_ok (Ok x) P Q then here = then here
+on_ok (Err e) P Q then here = tt
