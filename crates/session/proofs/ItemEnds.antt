@@ -1,6 +1,6 @@
 -- How an item ends a session or lets it go on, once its text is written.
 use Rattle.std.proofs.Common.{◌≡◌, ◌∙◌, ◌≤◌, ◌+◌, ℕ, Bool, true, false, Option, Some, None, Result, Ok, Err, List, [], ◌∷◌, ◌++◌, length, take, append-nil, refl, sym, ap, subst, inl, inr, ⊎_elim, arith}
-use Rattle.std.specs.Prelude.{OnOk, IsErrOf}
+use Rattle.std.specs.Prelude.{OnOk, OnErr, IsErrOf}
 use Rattle.std.specs.Io.KnownBytes.{Appends}
 use Rattle.std.proofs.KnownBytes.{Appends-nil}
 use Rattle.io_model.specs.Outside.{TookFront}
@@ -8,21 +8,22 @@ use Rattle.disk_model.specs.Images.{Image}
 use Rattle.disk_model.specs.Crashes.{LeavesOnly}
 use Rattle.disk_model.proofs.Moments.{weakened}
 use Rattle.ddt_entry.specs.declared.key.Key.{Key}
+use Rattle.pool_model.specs.declared.notes.Kind.{Kind}
 use Rattle.pool_model.specs.declared.notes.Kind.TheVariants.{Lanes}
 use Rattle.pool_model.specs.declared.notes.Outcome.{Outcome}
 use Rattle.pool_model.specs.declared.notes.Outcome.TheVariants.{Sealed, NoSpace, Cut}
 use Rattle.pool_model.specs.Plain.{Task, Part, lanes, stat, «import», Told}
 use Rattle.pool_model.specs.Group.{Standing, lane_by_lane}
-use Rattle.pool_model.specs.Run.{Order, DidPart, standing_by, noted_standing, sealed_standing, pages_since}
-use Rattle.pool_model.specs.Crash.{AnyStands, StandsAt, begun, begun_by}
-use Rattle.pool_model.specs.Text.{group_text, plain_text}
+use Rattle.pool_model.specs.Run.{Order, Ended, DidPart, kind_of, standing_by, noted_standing, sealed_standing, pages_since, ended_item, ended_items, last_standing, NotesItem, NotesRun}
+use Rattle.pool_model.specs.Crash.{AnyStands, StandsAt, begun, begun_by, begun_item}
+use Rattle.pool_model.specs.Text.{group_text, plain_text, report}
 use Rattle.report.specs.Writes.{Wrote}
 use Rattle.table_state.specs.Flat.{StandsFor}
 use Rattle.table_state.specs.Pools.{Held}
 use Rattle.session.specs.Crashing.{Holds}
 use Rattle.session.specs.Entries.{IsOver}
 use Rattle.session.specs.Groups.{GroupEnded, GroupCut, GroupWent, TellsGroup}
-use Rattle.session.specs.Items.{ItemWent, ItemDone, ItemCut, is_write_fault}
+use Rattle.session.specs.Items.{room_from, IsLastNote, KeepsApart, ItemWent, ItemDone, ItemCut, is_write_fault}
 use Rattle.session.specs.declared.status.Status.{Status}
 use Rattle.session.specs.declared.status.Status.TheVariants.{SinkFault}
 
@@ -93,3 +94,46 @@ module _ {D : Type 0} (clock : D → ℕ) (left_since : D → ℕ → Image → 
 pub on_ok : {T E : Type 0} (result : Result T E) (P Q : Type 0) → (P → Q) → OnOk result P → OnOk result Q
 on_ok (Ok x) P Q then here = then here
 on_ok (Err e) P Q then here = tt
+
+-- ---- An item that is no group
+
+module _ (key_of : List ℕ → Key) (s : Standing) (part : Part) (plain : kind_of part ≡ None) where
+  -- it ends with what stands
+  ends : ended_items lane_by_lane key_of (part ∷ []) [] s ≡ record { part = part; note = None; standing = s } ∷ []
+  ends = ap (λ (k : Option Kind). ended_item (ended_items lane_by_lane key_of []) lane_by_lane key_of s part k []) plain
+
+  -- and begins nothing
+  begins : begun lane_by_lane key_of (part ∷ []) [] s ≡ []
+  begins = ap (λ (k : Option Kind). begun_item (begun lane_by_lane key_of []) lane_by_lane key_of s part k []) plain
+
+  module _ {D : Type 0} (clock : D → ℕ) (left_since : D → ℕ → Image → Type 0) (may_leave : D → Image → Type 0) (seen : D → Option Image) (old new : D) (sectors group pages : ℕ) (tag : ℕ) (held : Held) (sealed : ℕ) (written now : Option (List ℕ))
+      (sealed_is : sealed ≡ s.pool.group) (crash : LeavesOnly clock left_since old new (λ c. AnyStands (Holds tag c) (s ∷ []))) where
+    begun_none : LeavesOnly clock left_since old new (λ c. AnyStands (Holds tag c) (s ∷ begun lane_by_lane key_of (part ∷ []) [] s))
+    begun_none = subst (λ (stands : List Standing). LeavesOnly clock left_since old new (λ c. AnyStands (Holds tag c) (s ∷ stands))) (sym begins) crash
+
+    pub plain_done : IsOver (seen new) (may_leave new) (pages_since group pages s) held s → Appends written now (plain_text part s.pool)
+        → ItemDone clock left_since may_leave seen old new sectors group pages key_of tag s part [] held sealed written now
+    plain_done over text = record {
+      notes = subst (λ (k : Option Kind). NotesItem (NotesRun lane_by_lane (room_from sectors group pages) key_of []) lane_by_lane (room_from sectors group pages) key_of s part k []) (sym plain) refl;
+      over = subst (λ (es : List Ended). IsOver (seen new) (may_leave new) (pages_since group pages (last_standing s es)) held (last_standing s es)) (sym ends) over;
+      sealed_is = subst (λ (es : List Ended). sealed ≡ (last_standing s es).pool.group) (sym ends) sealed_is;
+      text = subst (λ (es : List Ended). Appends written now (report es)) (sym ends) (subst (Appends written now) (sym (append-nil (plain_text part s.pool))) text);
+      others = subst (λ (es : List Ended). KeepsApart key_of s (last_standing s es) part) (sym ends) (λ all among content apart. apart);
+      crash = begun_none;
+    }
+
+    pub plain_stopped : (status : Status) → ((c : Image) → may_leave new c → Holds tag c s) → TookFront written now (plain_text part s.pool)
+        → ItemCut clock left_since may_leave old new sectors group pages key_of tag s part [] sealed written now status
+    plain_stopped status holds text = record {
+      notes = subst (λ (k : Option Kind). IsLastNote k (room_from sectors group pages) key_of s part []) (sym plain) refl;
+      text = subst (λ (es : List Ended). TookFront written now (report es)) (sym ends) (took_all written now (plain_text part s.pool) text);
+      crash = begun_none;
+      at_return = λ c left. inl (sym sealed_is, inl (holds c left));
+    }
+
+    -- by how the session goes on
+    pub plain_went : (result : Result Unit Status) → OnOk result (IsOver (seen new) (may_leave new) (pages_since group pages s) held s) → ((c : Image) → may_leave new c → Holds tag c s)
+        → OnOk result (Appends written now (plain_text part s.pool)) → OnErr result (TookFront written now (plain_text part s.pool))
+        → ItemWent clock left_since may_leave seen old new sectors group pages key_of tag s part [] held sealed written now result
+    plain_went (Ok done) over holds all front = plain_done over all
+    plain_went (Err status) over holds all front = plain_stopped status holds front

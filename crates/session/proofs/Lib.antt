@@ -3,3 +3,4 @@ pub mod SyncedPools
 pub mod Sealing
 pub mod Unsealed
 pub mod ItemEnds
+pub mod Imported

@@ -5,6 +5,7 @@ mod group_item;
 mod item;
 mod looking;
 mod opening;
+mod plain_item;
 mod status;
 mod words;
 
