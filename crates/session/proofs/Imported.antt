@@ -1,6 +1,6 @@
 -- The pool that is imported again over told contents is the one that stood in memory.
-use Rattle.std.proofs.Common.{◌≡◌, ◌∙◌, ℕ, Option, Some, None, List, length, refl, sym, ap, subst}
-use Rattle.std.specs.Prelude.{IfSome, IfNone}
+use Rattle.std.proofs.Common.{◌≡◌, ◌∙◌, ℕ, Option, Some, None, Err, List, length, refl, sym, ap, subst}
+use Rattle.std.specs.Prelude.{IfSome, IfNone, IsErrOf}
 use Rattle.disk_model.specs.Images.{Image, Stays}
 use Rattle.disk_model.specs.Crashes.{NothingPending}
 use Rattle.uber_ring.specs.Ring.{newest}
@@ -8,10 +8,15 @@ use Rattle.uber_ring.specs.declared.seal.Seal.{Seal}
 use Rattle.pool_model.specs.Pool.{Pool}
 use Rattle.pool_model.specs.Table.{TableState}
 use Rattle.pool_model.specs.Group.{Standing}
+use Rattle.pool_model.specs.declared.faults.SyncFault.{SyncFault}
+use Rattle.pool_model.specs.declared.faults.SyncFault.TheVariants.{ReadFault, WriteFault, Damaged, Memory}
 use Rattle.table_state.specs.Flat.{StandsFor, HasNoPool, IsDamaged}
 use Rattle.table_state.specs.Pools.{Held, IsHeld}
 use Rattle.table_state.proofs.FlatLaws.{one_state}
 use Rattle.session.specs.Entries.{IsOver, StandsForTold}
+use Rattle.session.specs.Groups.{status_by}
+use Rattle.session.specs.Running.{WentOn}
+use Rattle.session.specs.declared.status.Status.{Status}
 
 -- the pool in memory stands for what the disk tells
 abbrev pub IsFoundOver : Option Image → Held → Type 0
@@ -79,3 +84,20 @@ not_none (Some other) held image stood told none = none_some (newest 0 other) st
 pub not_damaged : (tag : ℕ) (old : Option Image) (held : Held) (image : Image) → held.tag ≡ tag → StandsForTold old held → old ≡ Some image → IfSome old (IsDamaged tag) → ⊥
 not_damaged tag None held image tag_is stood told damaged = cc told
 not_damaged tag (Some other) held image tag_is stood told damaged = damaged.no_pool stood.0 stood.1 (subst (λ t. StandsFor t other stood.0 stood.1) tag_is stood.2.stands)
+
+-- what holds of what was found
+pub of_found : {X : Type 0} (P : X → Type 0) (o : Option X) (found : X) → o ≡ Some found → IfSome o P → P found
+of_found P o found is holds = subst (λ x. IfSome x P) is holds
+
+same_error : (a b : Status) → IsErrOf {T = Unit {0}} {E = Status} (Err a) b → a ≡ b
+same_error a b same = cc same
+
+-- a fault that isn't damage ends a session whose disk tells its contents
+pub fault_ended : (fault : SyncFault) (answer status : Status) → answer ≡ status_by fault → IsErrOf {T = Unit {0}} {E = Status} (Err answer) status → ((sector : ℕ) → fault ≡ Damaged sector → ⊥) → WentOn status (Unit {0}) (Unit {0})
+fault_ended fault answer status is same undamaged = subst (λ s. WentOn s (Unit {0}) (Unit {0})) (sym is ∙ same_error answer status same) (ended fault undamaged)
+  where
+    ended : (fault : SyncFault) → ((sector : ℕ) → fault ≡ Damaged sector → ⊥) → WentOn (status_by fault) (Unit {0}) (Unit {0})
+    ended ReadFault undamaged = tt
+    ended WriteFault undamaged = tt
+    ended (Damaged sector) undamaged = absurd (undamaged sector refl)
+    ended Memory undamaged = tt

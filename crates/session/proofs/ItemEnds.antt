@@ -1,6 +1,6 @@
 -- How an item ends a session or lets it go on, once its text is written.
 use Rattle.std.proofs.Common.{◌≡◌, ◌∙◌, ◌≤◌, ◌+◌, ℕ, Bool, true, false, Option, Some, None, Result, Ok, Err, List, [], ◌∷◌, ◌++◌, length, take, append-nil, refl, sym, ap, subst, inl, inr, ⊎_elim, arith}
-use Rattle.std.specs.Prelude.{OnOk, OnErr, IsErrOf}
+use Rattle.std.specs.Prelude.{OnOk, OnErr, IsErrOf, codes}
 use Rattle.std.specs.Io.KnownBytes.{Appends}
 use Rattle.std.proofs.KnownBytes.{Appends-nil}
 use Rattle.io_model.specs.Outside.{TookFront}
@@ -12,17 +12,24 @@ use Rattle.pool_model.specs.declared.notes.Kind.{Kind}
 use Rattle.pool_model.specs.declared.notes.Kind.TheVariants.{Lanes}
 use Rattle.pool_model.specs.declared.notes.Outcome.{Outcome}
 use Rattle.pool_model.specs.declared.notes.Outcome.TheVariants.{Sealed, NoSpace, Cut}
-use Rattle.pool_model.specs.Plain.{Task, Part, lanes, stat, «import», Told}
+use Rattle.pool_model.specs.Plain.{Task, Part, part_of, lanes, Told}
 use Rattle.pool_model.specs.Group.{Standing, lane_by_lane}
 use Rattle.pool_model.specs.Run.{Order, Ended, DidPart, kind_of, standing_by, noted_standing, sealed_standing, pages_since, ended_item, ended_items, last_standing, NotesItem, NotesRun}
 use Rattle.pool_model.specs.Crash.{AnyStands, StandsAt, begun, begun_by, begun_item}
-use Rattle.pool_model.specs.Text.{group_text, plain_text, report}
+use Rattle.pool_model.specs.Text.{group_text, number_line, stat_text, plain_text, report}
+use Rattle.pool_model.specs.Pool.{Pool}
+use Rattle.pool_model.specs.Stats.{stats_of}
+use Rattle.pool_model.specs.declared.stats.Stats.{Stats}
+use Rattle.pool_model.specs.declared.commands.Item.{Item}
+use Rattle.pool_model.specs.declared.commands.Item.TheVariants as items
+use Rattle.disk_model.specs.declared.disk.Failed.{Failed}
+use Rattle.report.specs.ItemText.{text_of}
 use Rattle.report.specs.Writes.{Wrote}
 use Rattle.table_state.specs.Flat.{StandsFor}
 use Rattle.table_state.specs.Pools.{Held}
 use Rattle.session.specs.Crashing.{Holds}
 use Rattle.session.specs.Entries.{IsOver}
-use Rattle.session.specs.Groups.{GroupEnded, GroupCut, GroupWent, TellsGroup}
+use Rattle.session.specs.Groups.{GroupEnded, GroupCut, GroupWent, TellsGroup, ended_by}
 use Rattle.session.specs.Items.{room_from, IsLastNote, KeepsApart, ItemWent, ItemDone, ItemCut, is_write_fault}
 use Rattle.session.specs.declared.status.Status.{Status}
 use Rattle.session.specs.declared.status.Status.TheVariants.{SinkFault}
@@ -137,3 +144,23 @@ module _ (key_of : List ℕ → Key) (s : Standing) (part : Part) (plain : kind_
         → ItemWent clock left_since may_leave seen old new sectors group pages key_of tag s part [] held sealed written now result
     plain_went (Ok done) over holds all front = plain_done over all
     plain_went (Err status) over holds all front = plain_stopped status holds front
+
+    -- by what was written
+    pub told_went : (result : Result Unit Status) (wrote : Result Unit Failed) (faults faults_now : ℕ) (text : List ℕ) → result ≡ ended_by wrote → Wrote written now faults faults_now text wrote → text ≡ plain_text part s.pool
+        → IsOver (seen new) (may_leave new) (pages_since group pages s) held s → ((c : Image) → may_leave new c → Holds tag c s)
+        → ItemWent clock left_since may_leave seen old new sectors group pages key_of tag s part [] held sealed written now result
+    told_went result wrote faults faults_now text is written_so same over holds =
+        subst (λ (r : Result Unit Status). ItemWent clock left_since may_leave seen old new sectors group pages key_of tag s part [] held sealed written now r) (sym is) (by_answer wrote written_so)
+      where
+        by_answer : (wrote : Result Unit Failed) → Wrote written now faults faults_now text wrote → ItemWent clock left_since may_leave seen old new sectors group pages key_of tag s part [] held sealed written now (ended_by wrote)
+        by_answer (Ok done) so = plain_done over (subst (Appends written now) same so.all)
+        by_answer (Err failed) so = plain_stopped SinkFault holds (subst (TookFront written now) same so.front)
+
+-- the texts of these items are those of the pool that stands
+pub import_text : (item : Item) → item ≡ items.Import → (stats : Stats) (number : ℕ) (limit : Option ℕ) (pool : Pool) → number ≡ pool.group → text_of (part_of item) None stats number limit ≡ plain_text (part_of item) pool
+import_text item is stats number limit pool same = subst (λ (i : Item). text_of (part_of i) None stats number limit ≡ plain_text (part_of i) pool) (sym is) (ap (λ n. number_line (codes "import") n) same)
+
+pub pool_text : (item : Item) → item ≡ items.Stat → (stats : Stats) (number : ℕ) (limit : Option ℕ) (pool : Pool) → stats ≡ stats_of pool → number ≡ pool.group → limit ≡ pool.quota → text_of (part_of item) None stats number limit ≡ plain_text (part_of item) pool
+pool_text item is stats number limit pool sums same same_limit =
+    subst (λ (i : Item). text_of (part_of i) None stats number limit ≡ plain_text (part_of i) pool) (sym is)
+    (ap (λ n. stat_text n limit stats) same ∙ ap (λ l. stat_text pool.group l stats) same_limit ∙ ap (λ (st : Stats). stat_text pool.group pool.quota st) sums)

@@ -39,6 +39,10 @@ module _ {D : Type 0} (clock : D → ℕ) (left_since : D → ℕ → Image → 
   pub still_at : (c : Image) (failed : Bool) (rest : List Standing) → may_leave old c → StandsAt (Holds tag c) failed s.pool.group (s ∷ rest)
   still_at c failed rest left = inl (refl, inl (holds_now c left))
 
+  -- it does so at each moment of calls that leave no more
+  pub nothing_new : (new : D) → LeavesOnly clock left_since old new (may_leave old) → LeavesOnly clock left_since old new (λ c. AnyStands (Holds tag c) (s ∷ []))
+  nothing_new new run = weakened clock left_since old new (may_leave old) (λ c. AnyStands (Holds tag c) (s ∷ [])) run (λ c left. inl (holds_now c left))
+
   -- after calls that write nothing
   module _ (new : D) (stays : Stays (seen old) (seen new)) (same : SameOutcomes (may_leave old) (may_leave new)) (run : LeavesOnly clock left_since old new (may_leave old)) where
     pub still_over : IsOver (seen new) (may_leave new) count held s
