@@ -1,6 +1,6 @@
 -- The pool that is imported again over told contents is the one that stood in memory.
 use Rattle.std.proofs.Common.{◌≡◌, ◌∙◌, ℕ, Option, Some, None, Err, List, length, refl, sym, ap, subst}
-use Rattle.std.specs.Prelude.{IfSome, IfNone, IsErrOf}
+use Rattle.std.specs.Prelude.{IfSome, IsErrOf}
 use Rattle.disk_model.specs.Images.{Image, Stays}
 use Rattle.disk_model.specs.Crashes.{NothingPending}
 use Rattle.uber_ring.specs.Ring.{newest}

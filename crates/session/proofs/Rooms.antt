@@ -1,5 +1,5 @@
 -- The room that a pool in memory has, in the words of the pool that it stands for.
-use Rattle.std.proofs.Common.{◌≡◌, ◌∙◌, ℕ, Option, Some, None, List, [], length, sym, ap, subst}
+use Rattle.std.proofs.Common.{◌≡◌, ◌∙◌, ℕ, Option, List, length, sym, ap}
 use Rattle.std.specs.Prelude.{not, unwrap_or}
 use Rattle.std.specs.List.{count_by}
 use Rattle.disk_model.specs.Images.{Image}
@@ -7,7 +7,7 @@ use Rattle.pool_model.specs.declared.notes.Outcome.{Outcome}
 use Rattle.pool_model.specs.declared.notes.Outcome.TheVariants.{Sealed}
 use Rattle.pool_model.specs.Group.{Standing, ArePages, AreFresh, IsFree}
 use Rattle.pool_model.specs.Plain.{Task, lanes}
-use Rattle.pool_model.specs.Run.{RoomOn, outcome_by_room, pages_since}
+use Rattle.pool_model.specs.Run.{pages_since}
 use Rattle.pool_model.specs.Space.{need, free_count, space_lacking, changes_in, writes_in}
 use Rattle.pool_model.specs.Table.{TableState, flush_limit}
 use Rattle.table_state.specs.Pools.{Held, IsHeld}

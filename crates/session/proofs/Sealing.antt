@@ -1,12 +1,12 @@
 -- A group whose lanes have run, and its sync: it was sealed, or the session ends in it.
-use Rattle.std.proofs.Common.{◌≡◌, ◌∙◌, ◌≤◌, ◌<◌, ◌+◌, ◌==◌, ℕ, Bool, true, false, cond, Option, Some, None, Result, Ok, Err, List, [], ◌∷◌, ◌++◌, length, map, refl, sym, ap, subst, inl, inr, ⊎_elim, arith}
-use Rattle.std.specs.Prelude.{◌⊎◌, not, IsErrOf}
-use Rattle.std.specs.List.{count_by, AllByRecursion}
+use Rattle.std.proofs.Common.{◌≡◌, ◌∙◌, ◌≤◌, ◌+◌, ℕ, Bool, true, false, cond, Option, Some, None, Result, Err, List, [], ◌∷◌, ◌++◌, length, map, refl, sym, ap, subst, inl, inr, ⊎_elim, arith}
+use Rattle.std.specs.Prelude.{◌⊎◌, IsErrOf}
+use Rattle.std.specs.List.{AllByRecursion}
 use Rattle.std.proofs.lemmas.Bool.{eq-eqb}
 use Rattle.std.proofs.lemmas.List.{length-map}
 use Rattle.disk_model.specs.Images.{Image, Stays, sector_at}
-use Rattle.disk_model.specs.Crashes.{LeavesOnly, NothingPending, SameOutcomes}
-use Rattle.disk_model.proofs.Moments.{weakened, and_then, at_end}
+use Rattle.disk_model.specs.Crashes.{LeavesOnly, NothingPending}
+use Rattle.disk_model.proofs.Moments.{weakened, at_end}
 use Rattle.ddt_entry.specs.declared.key.Key.{Key}
 use Rattle.pool_model.specs.declared.faults.SyncFault.{SyncFault}
 use Rattle.pool_model.specs.declared.faults.SyncFault.TheVariants as syncs
@@ -14,26 +14,23 @@ use Rattle.pool_model.specs.declared.notes.Kind.{Kind}
 use Rattle.pool_model.specs.declared.notes.Kind.TheVariants.{Lanes}
 use Rattle.pool_model.specs.declared.notes.Outcome.{Outcome}
 use Rattle.pool_model.specs.declared.notes.Outcome.TheVariants.{Sealed, Cut}
-use Rattle.pool_model.specs.Pool.{Pool}
 use Rattle.pool_model.specs.Plain.{Task, Part, lanes, LaneTold, Told}
-use Rattle.pool_model.specs.Clash.{HasNoOther, part_contents}
-use Rattle.pool_model.specs.Group.{Standing, lane_by_lane, lanes_of, HasEachLane}
+use Rattle.pool_model.specs.Clash.{part_contents}
+use Rattle.pool_model.specs.Group.{Standing, lane_by_lane, lanes_of}
 use Rattle.pool_model.specs.Run.{Order, kind_of, pages_since, sealed_standing}
 use Rattle.pool_model.specs.Crash.{AnyStands, StandsAt, has_its_lanes, begun_by, begun_item, begun}
-use Rattle.pool_model.specs.Table.{TableState}
 use Rattle.table_state.specs.Flat.{StandsFor}
-use Rattle.table_state.specs.Pools.{Held, IsHeld}
+use Rattle.table_state.specs.Pools.{Held}
 use Rattle.run_laws.specs.Items.{IsIn, AreAmong}
 use Rattle.run_laws.proofs.Kept.{clash_kept}
 use Rattle.txg_sync.specs.Placing.{pages_of}
 use Rattle.txg_sync.specs.Planning.{Group}
-use Rattle.txg_sync.specs.Syncing.{group_pool, table_after, records_after, Syncs, SyncLeaves, CanSyncOver}
+use Rattle.txg_sync.specs.Syncing.{table_after, records_after, Syncs, SyncLeaves, CanSyncOver}
 use Rattle.lane_run.specs.Groups.{StandsOver, IsRunFrom}
 use Rattle.session.specs.Crashing.{Holds}
-use Rattle.session.specs.Entries.{IsOver, StandsForTold}
+use Rattle.session.specs.Entries.{StandsForTold}
 use Rattle.session.specs.Groups.{HasRunOver, GroupEnded, GroupCut, status_by}
-use Rattle.session.specs.Items.{IsAmong, KeepsApart, is_write_fault}
-use Rattle.session.specs.declared.status.Status.{Status}
+use Rattle.session.specs.Items.{IsAmong, is_write_fault}
 use Rattle.session.proofs.Rooms.{room_of}
 use Rattle.session.proofs.SyncedPools.{over_later}
 use Rattle.session.proofs.Unsealed.{holds_now}

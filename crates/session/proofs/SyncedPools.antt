@@ -1,36 +1,30 @@
 -- The pool in memory after a group's sync, over what the run of the group leaves.
-use Rattle.std.proofs.Common.{◌≡◌, ◌≢◌, ◌∙◌, ◌≤◌, ◌<◌, ◌+◌, ◌*◌, ◌==◌, ℕ, zero, suc, true, false, cond, Option, Some, None, List, [], ◌∷◌, length, map, refl, sym, ap, subst, inl, inr, ⊎_elim, arith}
-use Rattle.std.specs.Prelude.{◌⊎◌, not, take}
-use Rattle.std.specs.List.{count_by, AllByRecursion}
+use Rattle.std.proofs.Common.{◌≡◌, ◌≢◌, ◌∙◌, ◌≤◌, ◌<◌, ◌+◌, ℕ, cond, Option, Some, None, List, [], ◌∷◌, length, map, refl, sym, ap, subst, arith}
+use Rattle.std.specs.Prelude.{take}
 use Rattle.std.proofs.Math.Nat.{mod-lt}
 use Rattle.std.proofs.lemmas.Bool.{ne_eqb}
 use Rattle.std.proofs.lemmas.List.{length-map}
-use Rattle.disk_model.specs.Images.{Image, Stays, sector_at}
-use Rattle.disk_model.specs.Crashes.{LeavesOnly, NothingPending}
-use Rattle.ddt_entry.specs.declared.key.Key.{Key}
-use Rattle.ddt_entry.specs.declared.entry.Home.{Home}
-use Rattle.ddt_entry.specs.declared.entry.Entry.{Entry}
-use Rattle.ddt_entry.specs.declared.entry.Change.{Change}
+use Rattle.disk_model.specs.Images.{Image}
+use Rattle.disk_model.specs.Crashes.{NothingPending}
 use Rattle.page_tree.specs.Chains.{pages_for}
 use Rattle.uber_ring.specs.Ring.{slot_of, gate_sector, body_sector}
 use Rattle.pool_model.specs.Pool.{Pool}
-use Rattle.pool_model.specs.Plain.{Task, lanes, Told}
-use Rattle.pool_model.specs.Group.{Standing, lane_by_lane}
-use Rattle.pool_model.specs.Run.{pages_since, sealed_standing}
+use Rattle.pool_model.specs.Group.{Standing}
+use Rattle.pool_model.specs.Run.{pages_since}
 use Rattle.pool_model.specs.Space.{image_pages}
-use Rattle.pool_model.specs.Table.{TableState, found}
-use Rattle.table_state.specs.Flat.{StandsFor, pointer_of}
+use Rattle.pool_model.specs.Table.{TableState}
+use Rattle.table_state.specs.Flat.{pointer_of}
 use Rattle.table_state.specs.Pools.{Held, IsHeld, slots_after, with_blocks}
 use Rattle.table_state.specs.Sealed.{records_in, entry_bytes}
 use Rattle.table_state.specs.SlotRecords.{slot_bytes}
-use Rattle.table_state.specs.Tables.{unique_in, duplicate_in, table_pages}
+use Rattle.table_state.specs.Tables.{unique_in, duplicate_in}
 use Rattle.table_state.specs.declared.slot_record.SlotRecord.{SlotRecord}
 use Rattle.ddt_entry.specs.Records.{record_bytes}
 use Rattle.held_laws.proofs.NamedPages.{image_pages_are}
 use Rattle.txg_sync.specs.Placing.{pages_of}
 use Rattle.txg_sync.specs.Planning.{Group}
 use Rattle.txg_sync.specs.Syncing.{group_pool, table_after, records_after, Syncs, SyncLeaves}
-use Rattle.lane_run.specs.Groups.{WaitingStand, KeepsWaiting, StandsOver}
+use Rattle.lane_run.specs.Groups.{WaitingStand, KeepsWaiting}
 use Rattle.session.specs.Entries.{IsOver, StandsForTold}
 
 -- a sector behind the ring is none of it

@@ -1,5 +1,5 @@
 -- A group that wasn't sealed: for want of room, or because a device or memory failed before its sync.
-use Rattle.std.proofs.Common.{◌≡◌, ◌∙◌, ◌≤◌, ◌+◌, ℕ, Bool, Option, Some, None, Result, Ok, Err, List, [], ◌∷◌, length, refl, sym, ap, subst, inl, inr}
+use Rattle.std.proofs.Common.{◌≡◌, ◌∙◌, ◌≤◌, ◌+◌, ℕ, Bool, Option, Some, None, Result, Ok, Err, List, [], ◌∷◌, length, refl, sym, ap, subst, inl}
 use Rattle.std.specs.Prelude.{not, IsErrOf}
 use Rattle.std.specs.List.{count_by}
 use Rattle.disk_model.specs.Images.{Image, Stays}
@@ -8,10 +8,8 @@ use Rattle.disk_model.proofs.Moments.{weakened, and_then}
 use Rattle.ddt_entry.specs.declared.key.Key.{Key}
 use Rattle.pool_model.specs.declared.faults.GroupFault.{GroupFault}
 use Rattle.pool_model.specs.declared.faults.GroupFault.TheVariants as groups
-use Rattle.pool_model.specs.declared.notes.Kind.TheVariants.{Lanes}
 use Rattle.pool_model.specs.declared.notes.Outcome.{Outcome}
-use Rattle.pool_model.specs.declared.notes.Outcome.TheVariants.{Sealed, NoSpace, Cut}
-use Rattle.pool_model.specs.Pool.{Pool}
+use Rattle.pool_model.specs.declared.notes.Outcome.TheVariants.{NoSpace, Cut}
 use Rattle.pool_model.specs.Plain.{Task, Part, lanes, Told}
 use Rattle.pool_model.specs.Group.{Standing, lane_by_lane}
 use Rattle.pool_model.specs.Run.{pages_since}

@@ -1,5 +1,5 @@
 -- What a group comes to before its text is written: it ended, or the session ends in it.
-use Rattle.std.specs.Prelude.{◌≡◌, ◌≤◌, ◌+◌, ℕ, not, sum_by, List, [], ◌∷◌, length, Option, Some, None, Result, Ok, Err, IsErrOf}
+use Rattle.std.specs.Prelude.{◌≡◌, ◌≤◌, ◌+◌, ℕ, not, sum_by, List, [], ◌∷◌, length, Option, None, Result, Ok, Err, IsErrOf}
 use Rattle.std.specs.List.{count_by}
 use Rattle.disk_model.specs.Images.{Image}
 use Rattle.disk_model.specs.Crashes.{LeavesOnly}

@@ -1,6 +1,6 @@
 //! How a group of an item is done: its lanes run, what they leave is synced, and its text is written.
 
-ghost use Rattle.std.specs.Prelude.{◌≡◌, ◌≤◌, ◌<◌, ◌+◌, ◌-◌, ◌^◌, ◌++◌, ◌∷◌, [], ℕ, List, Some, None, Err, min, map, sum_by, ◌⊎◌, OnOk, IsOk, IsErrOf};
+ghost use Rattle.std.specs.Prelude.{◌≡◌, ◌≤◌, ◌<◌, ◌+◌, ◌-◌, ◌^◌, ◌++◌, ◌∷◌, [], ℕ, List, Some, None, Err, min, map, ◌⊎◌, OnOk, IsOk, IsErrOf};
 ghost use Rattle.cmd_file.specs.Items.{IsItem};
 ghost use Rattle.disk_model.specs.Images.{Image};
 ghost use Rattle.io_model.specs.Outside.{Rose};

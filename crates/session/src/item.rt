@@ -1,10 +1,10 @@
 //! How one item of a command file is done: a group, a `stat` or an `import`, with its text.
 
-ghost use Rattle.std.specs.Prelude.{◌≡◌, ◌≤◌, ◌<◌, ◌+◌, ◌-◌, ◌^◌, ◌++◌, ℕ, List, min, map, Some, OnOk, OnErr, IsErrOf};
+ghost use Rattle.std.specs.Prelude.{◌≡◌, ◌≤◌, ◌<◌, ◌+◌, ◌-◌, ◌^◌, ◌++◌, ℕ, List, min, Some, OnOk, IsErrOf};
 ghost use Rattle.cmd_file.specs.Items.{IsItem};
 ghost use Rattle.disk_model.specs.Images.{Image};
 ghost use Rattle.pool_model.specs.Group.{Standing};
-ghost use Rattle.pool_model.specs.Plain.{Told, part_of, told_of};
+ghost use Rattle.pool_model.specs.Plain.{Told, part_of};
 ghost use Rattle.pool_model.specs.Run.{pages_since};
 ghost use Rattle.session.specs.Entries.{IsOnDisk, IsOver};
 ghost use Rattle.session.specs.Items.{HasNoClashIn, ItemWent};

@@ -1,18 +1,13 @@
 //! How an item that is no group is done: the pool in memory is told of, or imported again.
 
-ghost use Rattle.std.specs.Prelude.{◌≡◌, ◌≤◌, ◌<◌, ◌+◌, ◌++◌, [], ℕ, List, Some, None, ◌⊎◌, OnOk, OnErr, IsErrOf};
+ghost use Rattle.std.specs.Prelude.{◌≡◌, ◌≤◌, ◌<◌, [], ℕ, Some, None, ◌⊎◌, OnOk, IsErrOf};
 ghost use Rattle.disk_model.specs.Images.{Image};
 ghost use Rattle.disk_model.specs.Crashes.{LeavesOnly};
-ghost use Rattle.io_model.specs.Outside.{Rose, TookFront};
-ghost use Rattle.std.specs.Io.KnownBytes.{Appends};
+ghost use Rattle.io_model.specs.Outside.{Rose};
 ghost use Rattle.pool_model.specs.declared.commands.Item.TheVariants as items;
 ghost use Rattle.pool_model.specs.Group.{Standing};
 ghost use Rattle.pool_model.specs.Plain.{part_of};
-ghost use Rattle.pool_model.specs.Pool.{Pool as PoolModel};
 ghost use Rattle.pool_model.specs.Run.{pages_since};
-ghost use Rattle.pool_model.specs.Table.{TableState};
-ghost use Rattle.pool_model.specs.Text.{plain_text};
-ghost use Rattle.table_state.specs.Pools.{IsHeld};
 ghost use Rattle.session.specs.Entries.{IsOnDisk, IsOver};
 ghost use Rattle.session.specs.Items.{ItemWent};
 ghost use Rattle.session.specs.Running.{WentOn};

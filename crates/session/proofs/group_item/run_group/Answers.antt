@@ -1,11 +1,11 @@
 -- A group is run and sealed, or refused.
-use Rattle.std.proofs.Common.{◌≡◌, ◌∙◌, ◌+◌, List, ap, map, subst, sym, Option, Some, Ok}
+use Rattle.std.proofs.Common.{◌+◌, List, ap, map, subst, Option}
 use Rattle.disk_model.specs.Images.{Image, Stays}
 use Rattle.pool_model.specs.declared.notes.LaneNote.{LaneNote}
 use Rattle.pool_model.specs.declared.notes.Outcome.TheVariants as outcomes
-use Rattle.pool_model.specs.Plain.{Told, lane_told, lanes, task_of, told_of}
+use Rattle.pool_model.specs.Plain.{lane_told, lanes, task_of, told_of}
 use Rattle.pool_model.specs.Run.{pages_since}
-use Rattle.session.specs.Groups.{new_told, outcome_by}
+use Rattle.session.specs.Groups.{outcome_by}
 use Rattle.txg_sync.specs.Planning.{group_in}
 use Rattle.session.proofs.Sealing.{can_over}
 use Rattle.session.proofs.Unsealed.{unchanged, refused_went, went_since, has_run, noted_refused}

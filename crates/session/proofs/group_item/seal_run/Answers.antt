@@ -1,8 +1,8 @@
 -- A group that was run is sealed, or the session ends in it.
-use Rattle.std.proofs.Common.{◌≡◌, ap, subst, sym, refl}
+use Rattle.std.proofs.Common.{ap, subst, sym, refl}
 use Rattle.pool_model.specs.declared.notes.Outcome.{Outcome}
 use Rattle.pool_model.specs.declared.notes.Outcome.TheVariants as outcomes
-use Rattle.pool_model.specs.Plain.{Told, lanes, told_of}
+use Rattle.pool_model.specs.Plain.{lanes, told_of}
 use Rattle.txg_sync.specs.Planning.{group_in}
 use Rattle.session.specs.Groups.{GroupCut}
 use Rattle.session.specs.declared.status.Status.{Status}

@@ -1,5 +1,5 @@
 -- An import leaves what stands, and tells its group.
-use Rattle.std.proofs.Common.{◌≡◌, ◌∙◌, ap, None}
+use Rattle.std.proofs.Common.{◌∙◌, ap, None}
 use Rattle.pool_model.specs.declared.commands.Item.{Item}
 use Rattle.pool_model.specs.Plain.{part_of}
 use Rattle.pool_model.specs.Run.{kind_of, pages_since}

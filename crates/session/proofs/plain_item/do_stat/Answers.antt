@@ -1,5 +1,5 @@
 -- A `stat` changes nothing, and tells the pool that stands.
-use Rattle.std.proofs.Common.{◌≡◌, ◌∙◌, ap, None}
+use Rattle.std.proofs.Common.{◌∙◌, ap}
 use Rattle.disk_model.proofs.Moments.{started}
 use Rattle.pool_model.specs.declared.commands.Item.{Item}
 use Rattle.pool_model.specs.Plain.{part_of}

@@ -1,11 +1,6 @@
 -- The pool that is imported again is the one that stood.
-use Rattle.std.proofs.Common.{◌≡◌, ◌∙◌, subst, sym, ap, Option, Some, Ok, Err, Result, refl}
-use Rattle.std.specs.Prelude.{IfSome, IsErrOf}
-use Rattle.pool_model.specs.Pool.{Pool}
-use Rattle.pool_model.specs.Table.{TableState}
-use Rattle.pool_model.specs.declared.faults.SyncFault.{SyncFault}
-use Rattle.pool_model.specs.declared.faults.SyncFault.TheVariants.{Damaged}
-use Rattle.table_state.specs.Pools.{Held, IsHeld}
+use Rattle.std.proofs.Common.{◌≡◌, ◌∙◌, ap, Err}
+use Rattle.table_state.specs.Pools.{Held}
 use Rattle.session.proofs.Imported.{IsFoundOver, found_over, of_found, fault_ended, not_damaged}
 use Rattle.session.proofs.plain_item.import_again.Goals as goal
 
