@@ -127,7 +127,7 @@ five_pages s u d a f u' d' same_u same_d =
     grouped p q r t v = omega arith
 
 -- the pages of a pool's image are those of its slots and of its table
-image_pages_are : (pool : Pool) (table : TableState) → image_pages pool table ≡ pages_for (length pool.pointers) + table_pages table
+pub image_pages_are : (pool : Pool) (table : TableState) → image_pages pool table ≡ pages_for (length pool.pointers) + table_pages table
 image_pages_are pool table =
     five_pages (length pool.pointers) (count_by (λ entry. entry.home.count == 1) table.zap) (count_by (λ entry. nat_lt 1 entry.home.count) table.zap) (length table.active) (length table.flush)
     (length (unique_in table.zap)) (length (duplicate_in table.zap))

@@ -139,10 +139,10 @@ module _ {D : Type 0} (clock : D → ℕ) (left_since : D → ℕ → Image → 
       ∙ report-append (ended_items lane_by_lane key_of done notes s) (ended_items lane_by_lane key_of (part ∷ []) last (last_standing s (ended_items lane_by_lane key_of done notes s)))
 
   -- one item more was done
-  pub more_going : IsItem part → Before
+  pub more_going : IsItem part → ((image : Image) → seen mid ≡ Some image → held'.sectors ≡ held.sectors) → Before
       → ItemDone clock left_since may_leave seen mid new sectors s.pool.group pages key_of tag here part last held' sealed' written now
       → IsGoing clock left_since may_leave seen start new sectors pages key_of tag s parts (done ++ part ∷ []) (notes ++ last) held' sealed' old now
-  more_going is going item =
+  more_going is size going item =
       let settings = item_settings (room_from sectors s.pool.group pages) key_of here part is last item.notes in
       let there = sym (next_is going.run) in
       record {
@@ -150,7 +150,7 @@ module _ {D : Type 0} (clock : D → ℕ) (left_since : D → ℕ → Image → 
         over = subst (λ (t : Standing). IsOver (seen new) (may_leave new) (pages_since s.pool.group pages t) held' t) there item.over;
         later = subst (λ (t : Standing). s.pool.group ≤ t.pool.group) there (omega (arith, going.later, settings.0));
         modes = subst (λ (t : Standing). t.pool.modes ≡ s.pool.modes) there (settings.1 ∙ going.modes);
-        sectors_are = item.sectors_kept;
+        sectors_are = size going.over.image going.over.told ∙ going.sectors_are;
         sealed_is = subst (λ (t : Standing). sealed' ≡ t.pool.group) there item.sealed_is;
         text = subst (Appends old now) (sym (report_is going.run)) (Appends-trans old written now (report (ended_items lane_by_lane key_of done notes s)) (report (ended_items lane_by_lane key_of (part ∷ []) last here)) going.text item.text);
         others = λ content is. subst (λ (t : Standing). HasNoOther key_of t (contents parts) content) there

@@ -77,14 +77,14 @@ module _ {D : Type 0} (clock : D → ℕ) (left_since : D → ℕ → Image → 
     Went result = (s : Standing) (group pages : ℕ) → IsOver (seen mid) (may_leave mid) (pages_since group pages s) held s → group ≤ s.pool.group → HasNoClashIn key_of s part
         → (more : List Told) × (told ≡ notes ++ more) × ItemWent clock left_since may_leave seen mid new held.sectors group pages key_of tag s part more held' sealed' written now result
 
-    pub goes_more : IsItem part → GoesOn clock left_since may_leave seen start mid key_of tag first parts done notes held sealed old written → Went (Ok tt)
+    pub goes_more : IsItem part → ((image : Image) → seen mid ≡ Some image → held'.sectors ≡ held.sectors) → GoesOn clock left_since may_leave seen start mid key_of tag first parts done notes held sealed old written → Went (Ok tt)
         → GoesOn clock left_since may_leave seen start new key_of tag first parts (done ++ part ∷ []) told held' sealed' old now
-    goes_more is goes went = λ s pages over clash.
+    goes_more is size goes went = λ s pages over clash.
         let going = goes s pages over clash in
         let at : Standing = last_standing s (ended_items lane_by_lane key_of done notes s) in
         let item = went at s.pool.group pages going.over going.later (no_clash_now key_of s at parts done rest part split going.modes going.others clash) in
         subst (λ (n : List Told). IsGoing clock left_since may_leave seen start new first.sectors pages key_of tag s parts (done ++ part ∷ []) n held' sealed' old now) (sym item.1)
-        (more_going clock left_since may_leave seen start mid new first.sectors pages key_of tag s parts done part rest notes item.0 held held' sealed sealed' old written now split is going
+        (more_going clock left_since may_leave seen start mid new first.sectors pages key_of tag s parts done part rest notes item.0 held held' sealed sealed' old written now split is size going
         (subst (λ (n : ℕ). ItemDone clock left_since may_leave seen mid new n s.pool.group pages key_of tag at part item.0 held' sealed' written now) going.sectors_are item.2))
 
     pub goes_stop : (status : Status) → GoesOn clock left_since may_leave seen start mid key_of tag first parts done notes held sealed old written → Went (Err status)

@@ -1,9 +1,15 @@
 pub mod Causes
 pub mod Ends
 pub mod Goings
+pub mod Imported
+pub mod ItemEnds
 pub mod ItemsGone
 pub mod Looked
 pub mod Made
 pub mod Opened
+pub mod Rooms
+pub mod Sealing
 pub mod Sessions
 pub mod Settings
+pub mod SyncedPools
+pub mod Unsealed

@@ -57,7 +57,6 @@ pub record ItemDone {D : Type 0} (clock : D → ℕ) (left_since : D → ℕ →
     (sectors group pages : ℕ) (key_of : List ℕ → Key) (tag : ℕ) (s : Standing) (part : Part) (last : List Told) (held : Held) (sealed : ℕ) (written now : Option (List ℕ)) : Type 0 where
   pub notes : NotesRun lane_by_lane (room_from sectors group pages) key_of (part ∷ []) last s
   pub over : IsOver (seen new) (may_leave new) (pages_since group pages (last_standing s (ended_items lane_by_lane key_of (part ∷ []) last s))) held (last_standing s (ended_items lane_by_lane key_of (part ∷ []) last s))
-  pub sectors_kept : held.sectors ≡ sectors
   pub sealed_is : sealed ≡ (last_standing s (ended_items lane_by_lane key_of (part ∷ []) last s)).pool.group
   pub text : Appends written now (report (ended_items lane_by_lane key_of (part ∷ []) last s))
   pub others : KeepsApart key_of s (last_standing s (ended_items lane_by_lane key_of (part ∷ []) last s)) part

@@ -3,6 +3,7 @@ pub mod Words
 pub mod Entries
 pub mod Crashing
 pub mod Items
+pub mod Groups
 pub mod Running
 pub mod Opening
 pub mod Looking

@@ -1,10 +1,10 @@
 //! How one item of a command file is done: a group, a `stat` or an `import`, with its text.
 
-ghost use Rattle.std.specs.Prelude.{◌≡◌, ◌≤◌, ◌<◌, ◌+◌, ◌-◌, ◌^◌, ◌++◌, ℕ, List, min, map, Some, OnOk, OnErr, IsErrOf};
+ghost use Rattle.std.specs.Prelude.{◌≡◌, ◌≤◌, ◌<◌, ◌+◌, ◌-◌, ◌^◌, ◌++◌, ℕ, List, min, Some, OnOk, IsErrOf};
 ghost use Rattle.cmd_file.specs.Items.{IsItem};
 ghost use Rattle.disk_model.specs.Images.{Image};
 ghost use Rattle.pool_model.specs.Group.{Standing};
-ghost use Rattle.pool_model.specs.Plain.{Told, part_of, told_of};
+ghost use Rattle.pool_model.specs.Plain.{Told, part_of};
 ghost use Rattle.pool_model.specs.Run.{pages_since};
 ghost use Rattle.session.specs.Entries.{IsOnDisk, IsOver};
 ghost use Rattle.session.specs.Items.{HasNoClashIn, ItemWent};
@@ -13,6 +13,8 @@ ghost use Rattle.io_model.specs.Outside.{Rose};
 ghost use Rattle.session.specs.declared.status.Status.{Status};
 ghost use Rattle.table_state.specs.SealForms.{last_group};
 
+use crate::group_item::do_group;
+use crate::plain_item::{do_import, do_stat};
 use crate::status::Status;
 use ddt_entry::KeyOf;
 use disk_model::Disk;
@@ -40,6 +42,7 @@ pub(crate) fn do_item<D: Disk, W: Sink, K: KeyOf>(
     ensures sectors { D.sectors_of disk.new ≡ D.sectors_of disk.old }
     ensures on_disk { OnOk result (IsOnDisk (D.sectors_of disk.new) (D.seen disk.new) (K.tag_of keyer.now) pool.new) }
     ensures next { (image : Image) → D.seen disk.old ≡ Some image → OnOk result (pool.new.group ≤ pool.old.group + 1) }
+    ensures size { (image : Image) → D.seen disk.old ≡ Some image → OnOk result (pool.new.sectors ≡ pool.old.sectors) }
     ensures sealed { OnOk result (session.new.sealed ≡ pool.new.group) }
     ensures noted { (notes : List Told) × (told_in session.new ≡ told_in session.old ++ notes) }
     ensures room { session.old.groups.spare ≤ session.new.groups.spare + 1 }
@@ -58,5 +61,10 @@ pub(crate) fn do_item<D: Disk, W: Sink, K: KeyOf>(
     ensures sink { W.faults out.old ≤ W.faults out.new }
     ensures sink_cause { IsErrOf result Status.SinkFault → Rose (W.faults out.old) (W.faults out.new) }
 {
-    Err(Status::OutOfMemory)
+    match item {
+        Item::Lanes(group) => do_group(alloc, pool, disk, out, keyer, item, group, session),
+        Item::Stat => do_stat(alloc, pool, disk, out, keyer, item, session),
+        Item::Import => do_import(alloc, pool, disk, out, keyer, item, session),
+        Item::Create | Item::Prune { .. } | Item::Quota(_) | Item::SetMode { .. } => unreachable!(),
+    }
 }

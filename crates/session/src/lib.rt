@@ -2,10 +2,12 @@
 #![tactic(auto)]
 
 mod finding;
+mod group_item;
 mod item;
 mod looking;
 mod making;
 mod opening;
+mod plain_item;
 mod running;
 mod status;
 mod words;

@@ -19,7 +19,7 @@ items-preserved g c =
     let is = subst (λ x. IsItem (part_of x)) (sym c.item-item.is) (item_at IsItem part_of c.args.items.now c.items.item-index c.item-item.result c.items-test.true c.requires.form) in
     let went = goes_more g.D.Disk.clock g.D.Disk.left_since g.D.Disk.may_leave g.D.Disk.seen (g.K.KeyOf.key_of c.args.keyer.now) (g.K.KeyOf.tag_of c.args.keyer.now) c.args.pool.now (map part_of c.args.items.now) c.args.disk.now
     c.items.disk c.do_item-done.new.disk done part rest (told_in c.items.session) (told_in c.do_item-done.new.session) c.items.pool c.do_item-done.new.pool c.items.session.sealed c.do_item-done.new.session.sealed
-    (g.W.Sink.written c.args.out.now) (g.W.Sink.written c.items.out) (g.W.Sink.written c.do_item-done.new.out) split is c.items.invariant.going c.in_default.ensures.went in
+    (g.W.Sink.written c.args.out.now) (g.W.Sink.written c.items.out) (g.W.Sink.written c.do_item-done.new.out) split is c.in_default.ensures.size c.items.invariant.going c.in_default.ensures.went in
     record {
       sectors = c.in_default.ensures.sectors ∙ c.items.invariant.sectors;
       on_disk = c.in_default.ensures.on_disk;
