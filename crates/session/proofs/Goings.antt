@@ -1,8 +1,8 @@
 -- The items of a session go on by one, over a disk that tells its contents.
-use Rattle.std.proofs.Common.{◌≡◌, ◌≤◌, ◌⊎◌, ℕ, Bool, List, [], ◌∷◌, ◌++◌, Option, Some, None, refl, sym, ap, ◌∙◌, arith, subst, take, append_assoc, inl, inr, ⊎_elim}
+use Rattle.std.proofs.Common.{◌≡◌, ◌≤◌, ℕ, Bool, List, [], ◌∷◌, ◌++◌, Option, Some, None, refl, sym, ap, ◌∙◌, arith, subst, take, append_assoc}
 use Rattle.std.specs.List.{AllByRecursion, flat_map}
 use Rattle.std.specs.Io.KnownBytes.{Appends}
-use Rattle.std.proofs.KnownBytes.{Appends-nil, Appends-trans}
+use Rattle.std.proofs.KnownBytes.{Appends-trans}
 use Rattle.disk_model.specs.Images.{Image}
 use Rattle.disk_model.specs.Crashes.{LeavesOnly}
 use Rattle.disk_model.proofs.Moments.{weakened, and_then}
@@ -16,29 +16,19 @@ use Rattle.pool_model.specs.Run.{Room, NotesRun, ended_items, last_standing, pag
 use Rattle.pool_model.specs.Crash.{AnyStands, StandsAt, begun, begun_item, begun_group, begun_by}
 use Rattle.pool_model.specs.Text.{report}
 use Rattle.pool_model.proofs.Laws.{report-append}
-use Rattle.run_laws.specs.Items.{IsIn, AreAmong}
+use Rattle.run_laws.specs.Items.{AreAmong}
 use Rattle.run_laws.proofs.Items.{none_begun, last_standing-append, ended-append, begun-append, run-append}
 use Rattle.run_laws.proofs.Stands.{any_left, any_right, at_right}
 use Rattle.run_laws.proofs.Clashes.{all_left, all_right, all_from, no_other_among, contents_of_item}
 use Rattle.table_state.specs.Pools.{Held}
 use Rattle.session.specs.Crashing.{Holds}
 use Rattle.session.specs.Entries.{IsOver, HasNoClashFrom}
-use Rattle.session.specs.Items.{room_from, IsLastNote, HasNoClashIn, IsAmong, ItemDone, ItemCut, is_write_fault}
+use Rattle.session.specs.Items.{room_from, IsLastNote, HasNoClashIn, ItemDone, ItemCut, is_write_fault}
 use Rattle.session.specs.Going.{IsGoing}
 use Rattle.session.specs.Stopping.{IsStopped}
 use Rattle.session.specs.declared.status.Status.{Status}
 use Rattle.session.proofs.Ends.{ends_at}
 use Rattle.session.proofs.Settings.{item_settings}
-
--- an item's contents are among those of all items
-is_among : (content : List ℕ) (all : List (List ℕ)) → IsIn content all → IsAmong content all
-is_among content [] is = is
-is_among content (other ∷ others) is = ⊎_elim (λ here. inl here) (λ later. inr (is_among content others later)) is
-
-item_among : (done rest : List Part) (part : Part) → AllByRecursion (λ content. IsAmong content (contents (done ++ part ∷ rest))) (part_contents part)
-item_among done rest part =
-    all_from (λ content. IsIn content (contents (done ++ part ∷ rest))) (λ content. IsAmong content (contents (done ++ part ∷ rest))) (λ content is. is_among content (contents (done ++ part ∷ rest)) is) (part_contents part)
-    (contents_of_item done rest part)
 
 -- which contents are trusted hangs on the modes alone
 trusted_by_modes : (s at : Standing) → at.pool.modes ≡ s.pool.modes → (part : Part) → part_trusted at.pool part ≡ part_trusted s.pool part
@@ -154,7 +144,7 @@ module _ {D : Type 0} (clock : D → ℕ) (left_since : D → ℕ → Image → 
         sealed_is = subst (λ (t : Standing). sealed' ≡ t.pool.group) there item.sealed_is;
         text = subst (Appends old now) (sym (report_is going.run)) (Appends-trans old written now (report (ended_items lane_by_lane key_of done notes s)) (report (ended_items lane_by_lane key_of (part ∷ []) last here)) going.text item.text);
         others = λ content is. subst (λ (t : Standing). HasNoOther key_of t (contents parts) content) there
-            (item.others (contents parts) (subst (λ (ps : List Part). AllByRecursion (λ content. IsAmong content (contents ps)) (part_contents part)) (sym split) (item_among done rest part)) content (going.others content is));
+            (item.others (contents parts) (subst (λ (ps : List Part). AreAmong (part_contents part) (contents ps)) (sym split) (contents_of_item done rest part)) content (going.others content is));
         crash = crash_more clock left_since may_leave start mid new sectors pages key_of tag s done (part ∷ []) notes last going.run going.crash item.crash;
       }
 

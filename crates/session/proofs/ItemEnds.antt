@@ -1,5 +1,5 @@
 -- How an item ends a session or lets it go on, once its text is written.
-use Rattle.std.proofs.Common.{◌≡◌, ◌∙◌, ◌+◌, ℕ, Bool, false, Option, None, Result, Ok, Err, List, [], ◌∷◌, ◌++◌, append-nil, refl, sym, ap, subst, inl, inr, arith}
+use Rattle.std.proofs.Common.{◌≡◌, ◌∙◌, ℕ, Bool, false, Option, None, Result, Ok, Err, List, [], ◌∷◌, ◌++◌, append-nil, refl, sym, ap, subst, inl, inr, arith}
 use Rattle.std.specs.Prelude.{OnOk, OnErr, codes}
 use Rattle.std.specs.Io.KnownBytes.{Appends}
 use Rattle.std.proofs.KnownBytes.{Appends-nil}

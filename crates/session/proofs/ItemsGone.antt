@@ -1,6 +1,6 @@
 -- The loop over a session's items: where it begins, goes on, and ends.
-use Rattle.std.proofs.Common.{◌≡◌, ◌≤◌, ◌<◌, ◌+◌, ◌-◌, ◌^◌, ℕ, Bool, true, false, cond, min, List, [], ◌∷◌, ◌++◌, map, take, drop, get_or, length, Option, Some, None, refl, sym, ap, ◌∙◌, arith, subst, zero, suc, Result, Ok, Err, inl}
-use Rattle.std.proofs.lemmas.List.{take_more, map-append, take_all}
+use Rattle.std.proofs.Common.{◌≡◌, ◌≤◌, ◌<◌, ◌+◌, ◌-◌, ◌^◌, ℕ, cond, min, List, [], ◌∷◌, ◌++◌, map, take, drop, get_or, length, Option, Some, None, refl, sym, ap, ◌∙◌, arith, subst, zero, suc, Result, Ok, Err, inl}
+use Rattle.std.proofs.lemmas.List.{take_more, map-append}
 use Rattle.std.proofs.lemmas.Bool.{eq-eqb}
 use Rattle.std.proofs.lemmas.Bool.Decides.{nat_tests}
 use Rattle.std.proofs.KnownBytes.{Appends-nil}
@@ -19,7 +19,7 @@ use Rattle.std.specs.List.{AllByRecursion}
 use Rattle.table_state.specs.Pools.{Held}
 use Rattle.table_state.specs.SealForms.{last_group}
 use Rattle.session.specs.Crashing.{Holds}
-use Rattle.session.specs.Entries.{IsOnDisk, IsOver, HasNoClashFrom, last_start}
+use Rattle.session.specs.Entries.{IsOnDisk, IsOver, last_start}
 use Rattle.session.specs.Items.{HasNoClashIn, ItemWent, ItemDone, ItemCut}
 use Rattle.session.specs.Going.{IsGoing, GoesOn}
 use Rattle.session.specs.Stopping.{IsStopped, StopsIn}

@@ -1,7 +1,6 @@
 -- A group whose lanes have run, and its sync: it was sealed, or the session ends in it.
 use Rattle.std.proofs.Common.{◌≡◌, ◌∙◌, ◌≤◌, ◌+◌, ℕ, Bool, true, false, cond, Option, Some, None, Result, Err, List, [], ◌∷◌, ◌++◌, length, map, refl, sym, ap, subst, inl, inr, ⊎_elim, arith}
 use Rattle.std.specs.Prelude.{◌⊎◌, IsErrOf}
-use Rattle.std.specs.List.{AllByRecursion}
 use Rattle.std.proofs.lemmas.Bool.{eq-eqb}
 use Rattle.std.proofs.lemmas.List.{length-map}
 use Rattle.disk_model.specs.Images.{Image, Stays, sector_at}
@@ -15,13 +14,11 @@ use Rattle.pool_model.specs.declared.notes.Kind.TheVariants.{Lanes}
 use Rattle.pool_model.specs.declared.notes.Outcome.{Outcome}
 use Rattle.pool_model.specs.declared.notes.Outcome.TheVariants.{Sealed, Cut}
 use Rattle.pool_model.specs.Plain.{Task, Part, lanes, LaneTold, Told}
-use Rattle.pool_model.specs.Clash.{part_contents}
 use Rattle.pool_model.specs.Group.{Standing, lane_by_lane, lanes_of}
 use Rattle.pool_model.specs.Run.{Order, kind_of, pages_since, sealed_standing}
 use Rattle.pool_model.specs.Crash.{AnyStands, StandsAt, has_its_lanes, begun_by, begun_item, begun}
 use Rattle.table_state.specs.Flat.{StandsFor}
 use Rattle.table_state.specs.Pools.{Held}
-use Rattle.run_laws.specs.Items.{IsIn, AreAmong}
 use Rattle.run_laws.proofs.Kept.{clash_kept}
 use Rattle.txg_sync.specs.Placing.{pages_of}
 use Rattle.txg_sync.specs.Planning.{Group}
@@ -30,19 +27,10 @@ use Rattle.lane_run.specs.Groups.{StandsOver, IsRunFrom}
 use Rattle.session.specs.Crashing.{Holds}
 use Rattle.session.specs.Entries.{StandsForTold}
 use Rattle.session.specs.Groups.{HasRunOver, GroupEnded, GroupCut, status_by}
-use Rattle.session.specs.Items.{IsAmong, is_write_fault}
+use Rattle.session.specs.Items.{is_write_fault}
 use Rattle.session.proofs.Rooms.{room_of}
 use Rattle.session.proofs.SyncedPools.{over_later}
 use Rattle.session.proofs.Unsealed.{holds_now}
-
--- a content that is among some is one of them
-pub among_is_in : (content : List ℕ) (all : List (List ℕ)) → IsAmong content all → IsIn content all
-among_is_in content [] among = among
-among_is_in content (other ∷ others) among = ⊎_elim (λ e. inl e) (λ rest. inr (among_is_in content others rest)) among
-
-pub all_in : (some all : List (List ℕ)) → AllByRecursion (λ content. IsAmong content all) some → AreAmong some all
-all_in [] all among = tt
-all_in (content ∷ some) all among = (among_is_in content all among.0, all_in some all among.1)
 
 -- the note of a group that was cut, with its lanes, begins the group
 begun_cut : (order : Order) (key_of : List ℕ → Key) (s : Standing) (part : Part) (kind : Kind) (told : Told) → kind_of part ≡ Some kind → has_its_lanes part told ≡ true → told.outcome ≡ Cut
@@ -98,7 +86,7 @@ module _ {D : Type 0} (clock : D → ℕ) (left_since : D → ℕ → Image → 
         };
         over = over_later ran.over.image (seen old) (seen new) (may_leave new) held next closed s.pool s.table after group pages ran.over.told synced quiet (at_end clock left_since old new Leaves (may_leave new) run counted)
             (ran.run.pool_is ran.no_clash) ran.run.table_is ran.run.waiting pages_are (omega (arith, ran.later));
-        others = λ all among content apart. clash_kept key_of s moment tasks told all (all_in (part_contents (lanes moment tasks)) all among) ran.run.waiting_stays content apart;
+        others = λ all among content apart. clash_kept key_of s moment tasks told all among ran.run.waiting_stays content apart;
         crash = while_syncing run;
       })
 

@@ -1,27 +1,26 @@
 -- A session from its opening to its end.
-use Rattle.std.proofs.Common.{◌≡◌, ◌≤◌, ◌⊎◌, ◌+◌, ◌-◌, ◌^◌, ℕ, Bool, true, false, min, List, [], ◌∷◌, ◌++◌, map, length, Option, Some, None, refl, sym, ap, ◌∙◌, subst, inl, inr, ⊎_elim, arith}
+use Rattle.std.proofs.Common.{◌≡◌, ◌≤◌, ◌+◌, ◌-◌, ◌^◌, ℕ, false, min, List, [], ◌∷◌, Option, Some, None, refl, sym, subst, inl, inr, ⊎_elim, arith}
 use Rattle.std.specs.Prelude.{⊤}
 use Rattle.std.proofs.lemmas.Bool.Decides.{nat_tests}
-use Rattle.std.specs.Io.KnownBytes.{Keeps, Appends}
+use Rattle.std.specs.Io.KnownBytes.{Keeps}
 use Rattle.disk_model.specs.Images.{Image}
-use Rattle.disk_model.specs.Crashes.{LeavesOnly, NothingPending}
+use Rattle.disk_model.specs.Crashes.{LeavesOnly}
 use Rattle.disk_model.specs.Faults.{Rose}
 use Rattle.disk_model.proofs.Moments.{started, weakened, and_then}
 use Rattle.ddt_entry.specs.declared.key.Key.{Key}
 use Rattle.pool_model.specs.declared.notes.Session.{Session}
-use Rattle.pool_model.specs.Plain.{Part, Told}
+use Rattle.pool_model.specs.Plain.{Part}
 use Rattle.pool_model.specs.Group.{Standing, lane_by_lane}
-use Rattle.pool_model.specs.Run.{ended_items, last_standing, NotesRun}
+use Rattle.pool_model.specs.Run.{last_standing, NotesRun}
 use Rattle.pool_model.specs.Crash.{AnyStands, StandsAt, begun}
 use Rattle.run_laws.proofs.Stands.{any_left, at_last}
 use Rattle.table_state.specs.Pools.{Held}
-use Rattle.session.specs.Crashing.{Holds, SameFound, MayHold, LeftAtReturn, Crashes}
-use Rattle.session.specs.Entries.{BeginsAt, IsOver, HasNoClashFrom}
-use Rattle.session.specs.Items.{room_from, is_write_fault}
-use Rattle.session.specs.Going.{IsGoing, GoesOn}
-use Rattle.session.specs.Stopping.{IsStopped, StopsIn}
+use Rattle.session.specs.Crashing.{Holds, SameFound, MayHold}
+use Rattle.session.specs.Items.{room_from}
+use Rattle.session.specs.Going.{GoesOn}
+use Rattle.session.specs.Stopping.{StopsIn}
 use Rattle.session.specs.Opening.{IsOpened, IsNotOpened}
-use Rattle.session.specs.Running.{told_in, ended_in, IsKept, HasDone, HasStopped, HasStoppedBy, WentOn, IsEarly, HasBegunItems, HasNotBegun, ItemsRanOver, IsOfOpening, IsOfItems, IsOfDevices, BeforeDevices, HasStatusCause, RoseBeyond}
+use Rattle.session.specs.Running.{told_in, ended_in, HasStoppedBy, WentOn, IsEarly, HasBegunItems, HasNotBegun, IsOfOpening, IsOfItems, IsOfDevices, BeforeDevices, HasStatusCause, RoseBeyond}
 use Rattle.session.specs.declared.status.Status.{Status}
 use Rattle.session.specs.declared.status.Status.TheVariants.{Done, Usage, BadFile, SourceFault, SinkFault, ReadFault, WriteFault, NoPool, Damaged, OutOfMemory, PoolExists, BadSize, LastGroup}
 use Rattle.session.specs.declared.words.Word.{Word}
@@ -68,24 +67,28 @@ module _ {D : Type 0} (clock : D → ℕ) (left_since : D → ℕ → Image → 
       let s = opened.s in
       let at : Standing = last_standing s (ended_in key_of s parts session) in
       record {
-        s = s; sectors = opened.sectors; pages = opened.pages; begins = opened.begins; ended = tt;
+        s = s;
+        sectors = opened.sectors;
+        pages = opened.pages;
+        begins = opened.begins;
+        ended = tt;
         crash = λ clash.
-          let going = goes s opened.pages opened.over clash in
-          let ends = ends_at lane_by_lane (room_from first.sectors s.pool.group opened.pages) key_of parts (told_in session) s going.run in
-          record {
-            any_moment = crash_whole start mid end s (begun lane_by_lane key_of parts (told_in session) s) opened.crash going.crash;
-            at_return = λ c leaves.
-              let holds : Holds tag c at = subst (λ (i : Image). Holds tag i at) (sym (going.over.quiet.1 c leaves)) (subst (λ (t : ℕ). Holds t going.over.image at) tag_is going.over.stands.is_held.stands) in
-              inr (subst (StandsAt (Holds tag c) false session.sealed) (sym ends.1) (at_last (Holds tag c) false session.sealed ends.0 at (sym going.sealed_is) holds));
-          };
+            let going = goes s opened.pages opened.over clash in
+            let ends = ends_at lane_by_lane (room_from first.sectors s.pool.group opened.pages) key_of parts (told_in session) s going.run in
+            record {
+              any_moment = crash_whole start mid end s (begun lane_by_lane key_of parts (told_in session) s) opened.crash going.crash;
+              at_return = λ c leaves.
+                  let holds : Holds tag c at = subst (λ (i : Image). Holds tag i at) (sym (going.over.quiet.1 c leaves)) (subst (λ (t : ℕ). Holds t going.over.image at) tag_is going.over.stands.is_held.stands) in
+                  inr (subst (StandsAt (Holds tag c) false session.sealed) (sym ends.1) (at_last (Holds tag c) false session.sealed ends.0 at (sym going.sealed_is) holds));
+            };
         went = λ clash.
-          let going = goes s opened.pages opened.over clash in
-          record {
-            notes = subst (λ (n : ℕ). NotesRun lane_by_lane (room_from n s.pool.group opened.pages) key_of parts (told_in session) s) opened.sectors_are going.run;
-            text = going.text;
-            sealed = going.sealed_is;
-            disk = record { image = going.over.image; told = going.over.told; quiet = going.over.quiet; holds = subst (λ (t : ℕ). Holds t going.over.image at) tag_is going.over.stands.is_held.stands };
-          };
+            let going = goes s opened.pages opened.over clash in
+            record {
+              notes = subst (λ (n : ℕ). NotesRun lane_by_lane (room_from n s.pool.group opened.pages) key_of parts (told_in session) s) opened.sectors_are going.run;
+              text = going.text;
+              sealed = going.sealed_is;
+              disk = record { image = going.over.image; told = going.over.told; quiet = going.over.quiet; holds = subst (λ (t : ℕ). Holds t going.over.image at) tag_is going.over.stands.is_held.stands };
+            };
       }
 
   went_on : (status : Status) (done stopped : Type 0) → WentOn status ⊤ ⊤ → (status ≡ Done → ⊥) → stopped → WentOn status done stopped
@@ -111,16 +114,20 @@ module _ {D : Type 0} (clock : D → ℕ) (left_since : D → ℕ → Image → 
   stopped_in start mid end parts session first old new status opened ended item stops =
       let s = opened.s in
       record {
-        s = s; sectors = opened.sectors; pages = opened.pages; begins = opened.begins; ended = ended;
+        s = s;
+        sectors = opened.sectors;
+        pages = opened.pages;
+        begins = opened.begins;
+        ended = ended;
         crash = λ clash.
-          let stop = stops s opened.pages opened.over clash in
-          record {
-            any_moment = crash_whole start mid end s (begun lane_by_lane key_of parts (told_in session) s) opened.crash stop.crash;
-            at_return = λ c leaves. inr (stop.at_return c leaves);
-          };
+            let stop = stops s opened.pages opened.over clash in
+            record {
+              any_moment = crash_whole start mid end s (begun lane_by_lane key_of parts (told_in session) s) opened.crash stop.crash;
+              at_return = λ c leaves. inr (stop.at_return c leaves);
+            };
         went = λ clash.
-          let stop = stops s opened.pages opened.over clash in
-          went_on status _ _ ended (λ e. subst IsOfItems e item) (subst (λ (n : ℕ). HasStoppedBy key_of s n opened.pages parts (told_in session) old new) opened.sectors_are stop.stopped);
+            let stop = stops s opened.pages opened.over clash in
+            went_on status _ _ ended (λ e. subst IsOfItems e item) (subst (λ (n : ℕ). HasStoppedBy key_of s n opened.pages parts (told_in session) old new) opened.sectors_are stop.stopped);
       }
 
 -- ---- Which statuses come from where

@@ -1,7 +1,5 @@
 -- What an item of a session leaves of the settings and of the group's number.
-use Rattle.std.proofs.Common.{◌≡◌, ◌≤◌, ◌+◌, ℕ, Bool, true, false, cond, List, [], ◌∷◌, Option, Some, None, refl, sym, ap, ◌∙◌, arith, fold}
-use Rattle.std.specs.List.{AllByRecursion}
-use Rattle.ddt_entry.specs.Keys.{key_eq}
+use Rattle.std.proofs.Common.{◌≡◌, ◌≤◌, ◌+◌, ℕ, Bool, true, false, cond, List, [], ◌∷◌, Option, Some, None, refl, ap, ◌∙◌, arith, fold}
 use Rattle.ddt_entry.specs.declared.key.Key.{Key}
 use Rattle.cmd_file.specs.Items.{IsItem}
 use Rattle.pool_model.specs.declared.commands.Mode.{Mode}
@@ -10,7 +8,7 @@ use Rattle.pool_model.specs.declared.notes.Kind.{Kind}
 use Rattle.pool_model.specs.declared.notes.Outcome.{Outcome}
 use Rattle.pool_model.specs.declared.notes.Outcome.TheVariants.{Sealed, NoSpace, Cut}
 use Rattle.pool_model.specs.Pool.{Pool, Pointer, Mark, plain, tracked, loose, held, mode_of}
-use Rattle.pool_model.specs.Plain.{Act, write, read, free, Task, Part, create, lanes, prune, quota, set_mode, stat, «import», Told, Reply, to_free, to_write}
+use Rattle.pool_model.specs.Plain.{Act, write, read, free, Task, Part, create, lanes, prune, quota, set_mode, stat, «import», Told, to_free, to_write}
 use Rattle.pool_model.specs.Command.{Opening, Turn, Course, Spot, nowhere, at_home, at_fresh, after, after_write, after_act, after_free, free_by_mark, placed, naming, replied, released, write_row, uses_table, is_fault}
 use Rattle.pool_model.specs.Group.{Standing, lane_by_lane, opening_of, opened, fresh_of}
 use Rattle.pool_model.specs.Run.{Room, NotesRun, NotesItem, kind_of, ended_items, ended_item, last_standing, sealed_standing, standing_by}

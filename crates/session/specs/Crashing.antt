@@ -1,5 +1,5 @@
 -- What a crash may leave of a session: what stood on the disk when it began, or one of the pools that it began to write.
-use Rattle.std.specs.Prelude.{◌≡◌, ◌⊎◌, ℕ, Bool, true, List, [], ◌∷◌}
+use Rattle.std.specs.Prelude.{◌≡◌, ◌⊎◌, ℕ, Bool, true, List}
 use Rattle.disk_model.specs.Images.{Image}
 use Rattle.disk_model.specs.Crashes.{LeavesOnly}
 use Rattle.pool_model.specs.Pool.{Pool}

@@ -1,11 +1,10 @@
 -- How far the items of a session have gone, over a disk that tells its contents.
-use Rattle.std.specs.Prelude.{◌≡◌, ◌≤◌, ℕ, List, [], ◌∷◌, map, Option}
+use Rattle.std.specs.Prelude.{◌≡◌, ◌≤◌, ℕ, List, ◌∷◌, Option}
 use Rattle.std.specs.Io.KnownBytes.{Appends}
 use Rattle.disk_model.specs.Images.{Image}
 use Rattle.disk_model.specs.Crashes.{LeavesOnly}
 use Rattle.ddt_entry.specs.declared.key.Key.{Key}
-use Rattle.pool_model.specs.declared.commands.Item.{Item}
-use Rattle.pool_model.specs.Plain.{Part, Told, part_of}
+use Rattle.pool_model.specs.Plain.{Part, Told}
 use Rattle.pool_model.specs.Clash.{HasNoOther, contents}
 use Rattle.pool_model.specs.Group.{Standing, lane_by_lane}
 use Rattle.pool_model.specs.Run.{NotesRun, ended_items, last_standing}

@@ -12,7 +12,7 @@ use Rattle.pool_model.specs.declared.faults.SyncFault.TheVariants as syncs
 use Rattle.pool_model.specs.declared.notes.Kind.TheVariants.{Lanes}
 use Rattle.pool_model.specs.declared.notes.Outcome.{Outcome}
 use Rattle.pool_model.specs.declared.notes.Outcome.TheVariants.{Sealed, NoSpace, Cut}
-use Rattle.pool_model.specs.Plain.{Task, Part, lanes, Told}
+use Rattle.pool_model.specs.Plain.{Task, Part, Told}
 use Rattle.pool_model.specs.Group.{Standing, lane_by_lane}
 use Rattle.pool_model.specs.Run.{pages_since, IsGroupNote, noted_standing}
 use Rattle.pool_model.specs.Crash.{AnyStands, StandsAt, begun}

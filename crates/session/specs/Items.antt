@@ -1,5 +1,5 @@
 -- What one item of a session comes to, where it is done and where the session ends in it.
-use Rattle.std.specs.Prelude.{◌≡◌, ◌⊎◌, ◌+◌, ℕ, Bool, true, false, List, [], ◌∷◌, ◌++◌, Option, Some, None, Result, Ok, Err}
+use Rattle.std.specs.Prelude.{◌≡◌, ◌⊎◌, ◌+◌, ℕ, Bool, true, false, List, [], ◌∷◌, Option, Some, None, Result, Ok, Err}
 use Rattle.std.specs.Io.KnownBytes.{Appends}
 use Rattle.std.specs.List.{AllByRecursion}
 use Rattle.io_model.specs.Outside.{TookFront}
@@ -14,6 +14,7 @@ use Rattle.pool_model.specs.Group.{Standing, lane_by_lane}
 use Rattle.pool_model.specs.Run.{Room, RoomOn, pages_since, kind_of, given_by, AnswersPart, IsGroupNote, NotesRun, ended_items, last_standing}
 use Rattle.pool_model.specs.Crash.{AnyStands, StandsAt, begun}
 use Rattle.pool_model.specs.Text.{report}
+use Rattle.run_laws.specs.Items.{AreAmong}
 use Rattle.table_state.specs.Pools.{Held}
 use Rattle.session.specs.Crashing.{Holds}
 use Rattle.session.specs.Entries.{IsOver}
@@ -42,15 +43,10 @@ IsLastNote (Some kind) room key_of s part last =
 abbrev pub HasNoClashIn : (List ℕ → Key) → Standing → Part → Type 0
 HasNoClashIn key_of s part = AllByRecursion (HasNoOther key_of s (part_contents part)) (part_trusted s.pool part)
 
--- a content is among these
-abbrev pub IsAmong : (content : List ℕ) → List (List ℕ) → Type 0
-IsAmong content [] = ⊥
-IsAmong content (other ∷ others) = (content ≡ other) ⊎ IsAmong content others
-
 -- a content without another one of its key before the item is without one after it
 abbrev pub KeepsApart : (List ℕ → Key) → (before after : Standing) → Part → Type 0
 KeepsApart key_of before after part =
-    (all : List (List ℕ)) → AllByRecursion (λ content. IsAmong content all) (part_contents part) → (content : List ℕ) → HasNoOther key_of before all content → HasNoOther key_of after all content
+    (all : List (List ℕ)) → AreAmong (part_contents part) all → (content : List ℕ) → HasNoOther key_of before all content → HasNoOther key_of after all content
 
 -- an item was done from this standing: its notes are a run's, the pool in memory is over what stands after it, its text was written, and a crash left what stood or what it began
 pub record ItemDone {D : Type 0} (clock : D → ℕ) (left_since : D → ℕ → Image → Type 0) (may_leave : D → Image → Type 0) (seen : D → Option Image) (old new : D)

@@ -1,5 +1,5 @@
 -- What opening a session's pool comes to: where its items begin, or why they don't.
-use Rattle.std.specs.Prelude.{◌≡◌, ◌⊎◌, ℕ, List, [], ◌∷◌, length, Option, Result, Ok, Err}
+use Rattle.std.specs.Prelude.{◌≡◌, ◌⊎◌, ℕ, List, [], ◌∷◌, Option, Result, Ok, Err}
 use Rattle.disk_model.specs.Images.{Image}
 use Rattle.disk_model.specs.Crashes.{LeavesOnly}
 use Rattle.pool_model.specs.Group.{Standing}

@@ -1,5 +1,5 @@
 -- What a session that runs a command file comes to: of the input, of the session's notes, of what was written, of the disk.
-use Rattle.std.specs.Prelude.{◌≡◌, ◌⊎◌, ◌≤◌, ◌<◌, ◌+◌, ◌-◌, ◌^◌, ℕ, ⊤, min, List, [], ◌∷◌, ◌++◌, length, map, take, sum_by, Option, Some, None, Ok, Err}
+use Rattle.std.specs.Prelude.{◌≡◌, ◌⊎◌, ◌≤◌, ◌<◌, ◌+◌, ◌-◌, ◌^◌, ℕ, ⊤, min, List, [], ◌∷◌, ◌++◌, length, map, take, sum_by, Option, Some, Ok, Err}
 use Rattle.std.specs.Io.KnownBytes.{Keeps, Appends}
 use Rattle.io_model.specs.Outside.{Rose, HasRead}
 use Rattle.cmd_file.specs.Reading.{IsReadOut}

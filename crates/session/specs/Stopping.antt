@@ -1,5 +1,5 @@
 -- Where a session ended that didn't do all of its items, over a disk that tells its contents.
-use Rattle.std.specs.Prelude.{◌≡◌, ℕ, List, ◌∷◌, ◌++◌, Option}
+use Rattle.std.specs.Prelude.{ℕ, List, ◌∷◌, Option}
 use Rattle.disk_model.specs.Images.{Image}
 use Rattle.disk_model.specs.Crashes.{LeavesOnly}
 use Rattle.ddt_entry.specs.declared.key.Key.{Key}

@@ -2,7 +2,6 @@
 use Rattle.std.proofs.Common.{◌+◌, List, ap, map, subst, Option}
 use Rattle.disk_model.specs.Images.{Image, Stays}
 use Rattle.pool_model.specs.declared.notes.LaneNote.{LaneNote}
-use Rattle.pool_model.specs.declared.notes.Outcome.TheVariants as outcomes
 use Rattle.pool_model.specs.Plain.{lane_told, lanes, task_of, told_of}
 use Rattle.pool_model.specs.Run.{pages_since}
 use Rattle.session.specs.Groups.{outcome_by}

@@ -3,7 +3,6 @@ use Rattle.std.proofs.Common.{rules}
 use Rattle.std.specs.Prelude.{IsErrOf}
 use Rattle.session.specs.Making.{MakeCause}
 use Rattle.session.specs.declared.status.Status.{Status}
-use Rattle.session.specs.declared.status.Status.TheVariants.{SinkFault}
 use Rattle.session.proofs.Causes.{make_devices, begin_cause}
 use Rattle.session.proofs.Opened.{not_made_at}
 use Rattle.session.proofs.opening.begin_new.Goals as goal

@@ -4,7 +4,7 @@ use Rattle.std.specs.Prelude.{IsErrOf}
 use Rattle.table_state.specs.Pools.{Held}
 use Rattle.session.specs.Finding.{FindCause}
 use Rattle.session.specs.declared.status.Status.{Status}
-use Rattle.session.specs.declared.status.Status.TheVariants.{SinkFault, BadSize, LastGroup}
+use Rattle.session.specs.declared.status.Status.TheVariants.{BadSize, LastGroup}
 use Rattle.session.specs.declared.words.Word.TheVariants.{Run}
 use Rattle.session.specs.Running.{HasStatusCause}
 use Rattle.session.proofs.Causes.{find_devices, of_status, run_cause}

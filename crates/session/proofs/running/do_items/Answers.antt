@@ -1,4 +1,4 @@
-use Rattle.std.proofs.Common.{◌≡◌, ◌+◌, List, [], ◌∷◌, ◌++◌, map, take, drop, suc, sym, ap, subst, ◌∙◌, arith, Ok, Err}
+use Rattle.std.proofs.Common.{◌≡◌, List, ◌∷◌, ◌++◌, map, take, drop, suc, sym, ap, subst, ◌∙◌, arith}
 use Rattle.std.proofs.lemmas.List.{take_all}
 use Rattle.cmd_file.specs.Items.{IsItem}
 use Rattle.pool_model.specs.Plain.{Part, part_of}
@@ -7,7 +7,7 @@ use Rattle.session.specs.Stopping.{StopsIn}
 use Rattle.session.specs.declared.status.Status.{Status}
 use Rattle.session.specs.Entries.{last_start}
 use Rattle.session.specs.Running.{told_in, faults_in}
-use Rattle.session.proofs.ItemsGone.{item_at, split_at, done_more, told_before, goes_more, goes_stop, reads_more, early_more, number_fits}
+use Rattle.session.proofs.ItemsGone.{item_at, split_at, done_more, told_before, goes_more, goes_stop, reads_more, early_more}
 use Rattle.session.proofs.running.do_items.Goals as goal
 
 pub items-preserved : goal.items-preserved
