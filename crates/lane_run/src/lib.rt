@@ -9,6 +9,10 @@
 //! image stands for, and so are the pool and the table once the group is sealed.
 #![tactic(auto)]
 
+mod block;
+mod choosing;
+mod live;
 mod run;
+mod writing;
 
 pub use run::run_group_plain;
