@@ -1,5 +1,4 @@
 pub mod Courses
 pub mod Openings
 pub mod Placed
-pub mod Rows
 pub mod Standings

@@ -2,12 +2,13 @@ ghost use Rattle.std.specs.Prelude.{◌≡◌, [], ◌++◌, ℕ, List, IfOk, fo
 ghost use Rattle.std.specs.Option.{option_to_list};
 ghost use Rattle.ddt_entry.specs.declared.key.Key.{Key};
 ghost use Rattle.pool_model.specs.Pool.{with_key};
-ghost use Rattle.pool_model.specs.Group.{emptied, settled, home_eq, change_from, change_of, touched_keys, changes_of};
+ghost use Rattle.pool_model.specs.Group.{change_of, touched_keys, changes_of};
 ghost use Rattle.plain_run.specs.Openings.{opening_by};
 
 use crate::course::PlainCourse;
-use crate::opening::PlainOpening;
-use ddt_entry::{Change, Entry, Home, Key};
+use crate::opening::{PlainOpening, home_of};
+use ddt_entry::{Change, Key};
+use home_rules::{change_from, settled};
 use plain_pool::with_key;
 use std::alloc::{AllocError, Global};
 
@@ -41,11 +42,9 @@ impl PlainCourse {
             change ≡ change_of (opening_by key_of opening.now) self.now key.now) }
     {
         let before = opening.table.found(key);
-        let now = match self.known_home(alloc, opening, key)? {
-            None => None,
-            Some(known) => Some(known.home),
-        };
-        Ok(change_from(key, before, settled(opening.number, before, now)))
+        let known = self.known_home(alloc, opening, key)?;
+        let now = settled(opening.number, before, home_of(&known));
+        Ok(change_from(key, before, now))
     }
 
     /// The keys that the group named, sorted, each once.
@@ -75,44 +74,4 @@ fn keys_among(alloc: Global, named: &[Key]) -> Result<Vec<Key>, AllocError>
         keys = with_key(keys, *key)?;
     }
     Ok(keys)
-}
-
-/// A home that stands as it stood, without pointers.
-fn emptied(home: Option<Home>) -> Option<Home>
-    ensures { result ≡ emptied home }
-{
-    match home {
-        None => None,
-        Some(home) => Some(Home { count: 0, ..home }),
-    }
-}
-
-/// What a group leaves of a key: a home that it made and lost again is none, or stands as it stood.
-fn settled(number: u64, before: Option<Home>, now: Option<Home>) -> Option<Home>
-    ensures { result ≡ settled number before now }
-{
-    match now {
-        None => before,
-        Some(home) if home.count == 0 && home.birth == number => emptied(before),
-        Some(home) => Some(home),
-    }
-}
-
-/// The change of a key from one home to another.
-fn change_from(key: &Key, before: Option<Home>, now: Option<Home>) -> Option<Change>
-    ensures { result ≡ change_from key.now before now }
-{
-    let home = now?;
-    let entry = Entry { key: *key, home };
-    match before {
-        Some(before) if is_same_home(before, home) => None,
-        _ => Some(Change::Entry(entry)),
-    }
-}
-
-/// Whether two homes agree in all four numbers.
-fn is_same_home(a: Home, b: Home) -> bool
-    ensures { result ≡ home_eq a b }
-{
-    a.place == b.place && a.birth == b.birth && a.since == b.since && a.count == b.count
 }

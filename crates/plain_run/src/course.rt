@@ -6,18 +6,17 @@ ghost use Rattle.pool_model.specs.Pool.{run_length, held};
 ghost use Rattle.pool_model.specs.Command.{is_fault, last_tracked, known_home, uses_table, naming, replied, released, placed, write_row, after_write, take_fresh, pointer_at, after_free, free_by_mark, after_act, after};
 ghost use Rattle.plain_pool.specs.Pointers.{mark_of};
 ghost use Rattle.plain_run.specs.Openings.{opening_by};
-ghost use Rattle.plain_run.specs.Rows.{row_of, spot_of};
+ghost use Rattle.home_rules.specs.Rows.{mark_since, row_of, spot_of};
 ghost use Rattle.plain_run.specs.Courses.{turn_of, WritesContent};
 
 use crate::answer::{PlainAnswer, is_fault};
 use crate::fresh::{PlaceQueue, next_fresh, take_fresh};
 use crate::opening::{PlainKnown, PlainOpening, known_at, sight};
-use crate::row::{Row, Spot, allows, mode_row};
+use crate::row::mode_row;
 use ddt_entry::{Key, KeyOf};
+use home_rules::{Row, Spot, allows, taken_row};
 use plain_pool::{Mark, PlainPointer, PlainPool, copied_block};
-use pool_model::{
-    Block, Command, CommandAnswer, FreeAnswer, Mode, Payload, ReadAnswer, Verb, WriteAnswer,
-};
+use pool_model::{Block, Command, CommandAnswer, FreeAnswer, Mode, Payload, ReadAnswer, Verb};
 use reserved_list::ReservedList;
 use std::alloc::{AllocError, Global};
 use std::marker::Model;
@@ -129,12 +128,14 @@ impl PlainCourse {
     {
         match spot {
             Spot::Nowhere => Ok(self),
-            Spot::AtHome { home, mark } => {
+            Spot::AtHome { home, since } => {
+                let mark = Mark::Tracked { since };
                 let pointer = pointer_at(command, key, content, home.place, home.birth, mark);
                 let pool = self.pool.copied(alloc)?.with_pointer(pointer)?;
                 self.moved_on(pool)
             }
-            Spot::AtFresh { mark } => {
+            Spot::AtFresh { since } => {
+                let mark = mark_since(since);
                 let place = next_fresh(self.fresh.as_slice(), command.lane);
                 let pointer = pointer_at(command, key, content, place, opening.number, mark);
                 let pool = self.pool.copied(alloc)?.with_pointer(pointer)?;
@@ -170,7 +171,7 @@ impl PlainCourse {
             self.now (turn_of command.now noted.now) content.now) }
     {
         if self.pool.held(command.lane, command.slot).is_some() {
-            return Ok(TAKEN);
+            return Ok(taken_row());
         }
         let key = keyer.key(content);
         let known = self.known_home(alloc, opening, &key)?;
@@ -355,11 +356,15 @@ fn pointer_at(
     }
 }
 
-/// The slot holds a pointer already.
-const TAKEN: Row = Row {
-    answer: WriteAnswer::Taken,
-    spot: Spot::Nowhere,
-};
+/// The mark of a pointer that the table counts since a moment, or not at all.
+fn mark_since(since: Option<u64>) -> Mark
+    ensures { mark_of result ≡ mark_since since }
+{
+    match since {
+        None => Mark::Plain,
+        Some(since) => Mark::Tracked { since },
+    }
+}
 
 /// How many sectors the blocks of a key take.
 fn run_length(key: &Key) -> u64

@@ -1,6 +1,6 @@
 ghost use Rattle.std.specs.Prelude.{◌≡◌, ◌==◌, ℕ, List, IfOk, take};
 ghost use Rattle.std.specs.List.{find};
-ghost use Rattle.std.specs.Option.{option_copied};
+ghost use Rattle.std.specs.Option.{option_copied, option_map};
 ghost use Rattle.ddt_entry.specs.declared.key.Key.{Key};
 ghost use Rattle.pool_model.specs.Table.{found};
 ghost use Rattle.ddt_entry.specs.Keys.{key_eq};
@@ -67,6 +67,16 @@ impl Model for PlainKnown {
     ghost Value = { Known };
 
     ghost view = { λ known. record { home = known.home; block = known.block.items } };
+}
+
+/// The home alone, without its block.
+pub fn home_of(known: &Option<PlainKnown>) -> Option<Home>
+    ensures { result ≡ option_map (λ known. known.home) known.now }
+{
+    match known {
+        None => None,
+        Some(known) => Some(known.home),
+    }
 }
 
 impl PlainOpening {

@@ -5,3 +5,4 @@ pub mod Synced
 pub mod Waiting
 pub mod Matching
 pub mod Named
+pub mod Keys

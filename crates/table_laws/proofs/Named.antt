@@ -20,7 +20,7 @@ use Rattle.table_laws.proofs.Finding.{keys_same}
 
 -- ---- Sorted keys
 
-keys_put : IsPut key_cmp (λ (key : Key). key) with_key
+pub keys_put : IsPut key_cmp (λ (key : Key). key) with_key
 keys_put = record { total = key_cmp_total; exact = exact_keys; alone = λ x. refl; step = λ x y ys. by_order x y ys (key_cmp x y) refl }
   where
     by_order : (x y : Key) (ys : List Key) (o : Ordering) → key_cmp x y ≡ o
@@ -29,7 +29,7 @@ keys_put = record { total = key_cmp_total; exact = exact_keys; alone = λ x. ref
     by_order x y ys Equal said = ap (λ (k : Key). k ∷ ys) (sym (exact_keys x y said))
     by_order x y ys Greater said = refl
 
-abbrev KeyBelow : Key → Key → Type 0
+abbrev pub KeyBelow : Key → Key → Type 0
 KeyBelow a b = is_lt (key_cmp a b) ≡ true
 
 -- keys that are named, sorted, each once
@@ -39,24 +39,24 @@ sorted_keys named = fold (λ keys key. with_key key keys) [] named
 pub keys_rising : (named : List Key) → Pairwise KeyBelow (sorted_keys named)
 keys_rising named = rising_fold keys_put named [] tt
 
+pub or_rotates : (a b d : Bool) → (a || (b || d)) ≡ ((b || a) || d)
+or_rotates true true d = refl
+or_rotates true false d = refl
+or_rotates false true d = refl
+or_rotates false false d = refl
+
+pub or_false : (b : Bool) → (b || false) ≡ b
+or_false true = refl
+or_false false = refl
+
 among_fold : (key : Key) (named keys : List Key) → is_among key (fold (λ ks k. with_key k ks) keys named) ≡ (is_among key named || is_among key keys)
 among_fold key [] keys = refl
 among_fold key (k ∷ named) keys =
-    among_fold key named (with_key k keys) ∙ ap (λ b. is_among key named || b) (any-put keys_same keys_put key k keys) ∙ by_tests (is_among key named) (key_eq k key) (is_among key keys)
-  where
-    by_tests : (a b d : Bool) → (a || (b || d)) ≡ ((b || a) || d)
-    by_tests true true d = refl
-    by_tests true false d = refl
-    by_tests false true d = refl
-    by_tests false false d = refl
+    among_fold key named (with_key k keys) ∙ ap (λ b. is_among key named || b) (any-put keys_same keys_put key k keys) ∙ or_rotates (is_among key named) (key_eq k key) (is_among key keys)
 
 -- a key is among the sorted ones where it was named
 pub among-sorted : (key : Key) (named : List Key) → is_among key (sorted_keys named) ≡ is_among key named
 among-sorted key named = among_fold key named [] ∙ or_false (is_among key named)
-  where
-    or_false : (b : Bool) → (b || false) ≡ b
-    or_false true = refl
-    or_false false = refl
 
 -- ---- Changes of keys
 

@@ -11,16 +11,16 @@
 //! are for the layers that run a group and seal it.
 #![tactic(auto)]
 
-ghost use Rattle.std.specs.Prelude.{◌≡◌, List, [], Option, Some, None, fold, if◌then◌else◌};
+ghost use Rattle.std.specs.Prelude.{◌≡◌, ◌+◌, ◌<◌, true, false, List, [], length, map, Option, Some, None, fold, if◌then◌else◌};
 ghost use Rattle.std.specs.List.{AllByRecursion, find, filter_map};
 ghost use Rattle.ddt_entry.specs.Keys.{key_eq};
 ghost use Rattle.ddt_entry.specs.declared.key.Key.{Key};
 ghost use Rattle.ddt_entry.specs.declared.entry.Home.{Home};
 ghost use Rattle.ddt_entry.specs.declared.entry.Entry.{Entry};
 ghost use Rattle.ddt_entry.specs.declared.entry.Change.{Change};
-ghost use Rattle.pool_model.specs.Pool.{Pool, with_key};
+ghost use Rattle.pool_model.specs.Pool.{Pool, Pointer, count_at, is_tracked, keys_in, tracked_at, with_key, with_pointer};
 ghost use Rattle.pool_model.specs.Table.{TableState, Matches, change_at, counted, entries_found, found, logged, sync_table, waiting_in};
-ghost use Rattle.table_state.specs.Flat.{AreRising};
+ghost use Rattle.table_state.specs.Flat.{AreRising, counted_homes};
 ghost use Rattle.table_state.specs.Tables.{IsTable, AreChangesRising};
 ghost use Rattle.table_laws.specs.Homes.{GivesOwnChanges, HomesMatch, StaysOrGoes, found_with, is_among};
 
@@ -89,4 +89,18 @@ pub fn changes_of_named_keys()
     ensures rise { (change_of : Key → Option Change) (named : List Key) → GivesOwnChanges change_of → AreChangesRising (filter_map change_of (fold (λ keys key. with_key key keys) [] named)) }
     ensures each { (change_of : Key → Option Change) (named : List Key) (key : Key) → GivesOwnChanges change_of
         → change_at key (filter_map change_of (fold (λ keys key. with_key key keys) [] named)) ≡ (if is_among key named then change_of key else None) }
+{}
+
+/// The keys of a table's counted homes are those that the pool counts, where the homes that it finds match.
+pub fn keys_are_counted_homes()
+    ensures { (pool : Pool) (table : TableState) → IsTable table → HomesMatch pool (found table)
+        → map (λ (entry : Entry). entry.key) (counted_homes table) ≡ keys_in pool }
+{}
+
+/// What one pointer more makes of the keys that a pool counts: one of a key that was not counted adds a key, and
+/// any other leaves them as they are.
+pub fn keys_of_one_more()
+    ensures new { (pool : Pool) (pointer : Pointer) → is_tracked pointer.mark ≡ true → tracked_at pool pointer.key ≡ [] → length (keys_in (with_pointer pool pointer)) ≡ length (keys_in pool) + 1 }
+    ensures shared { (pool : Pool) (pointer : Pointer) → is_tracked pointer.mark ≡ true → 0 < count_at pool pointer.key → keys_in (with_pointer pool pointer) ≡ keys_in pool }
+    ensures untracked { (pool : Pool) (pointer : Pointer) → is_tracked pointer.mark ≡ false → keys_in (with_pointer pool pointer) ≡ keys_in pool }
 {}
