@@ -1,5 +1,5 @@
 -- A group of writes as the definitions run it, beside what the code has of it; and what the definitions' pointer of a write makes of both.
-use Rattle.std.proofs.Common.{◌≡◌, ◌≢◌, ℕ, ◌+◌, ◌<◌, ◌≤◌, ◌==◌, ◌&&◌, Bool, true, false, cond, nat_lt, List, [], ◌∷◌, ◌++◌, length, filter, map, take, replicate, Some, None, Option, refl, sym, ap, subst, zero, suc, ◌∙◌, arith, inl, inr, length-append}
+use Rattle.std.proofs.Common.{◌≡◌, ◌≢◌, ℕ, ◌+◌, ◌<◌, ◌≤◌, ◌==◌, ◌&&◌, ◌||◌, Bool, true, false, cond, nat_lt, List, [], ◌∷◌, ◌++◌, length, filter, map, take, replicate, Some, None, Option, refl, sym, ap, subst, zero, suc, ◌∙◌, arith, inl, inr, length-append}
 use Rattle.std.specs.Prelude.{slice_index_or, ◌⊎◌}
 use Rattle.std.specs.List.{AllByRecursion, find, list_any}
 use Rattle.std.specs.Option.{option_map}
@@ -31,7 +31,7 @@ use Rattle.course_laws.proofs.Pointers.{all_insert, all_from, filter_insert, non
 use Rattle.course_laws.proofs.Homes.{left_by, left_after, home_now, left_by-later, home_now-later, none_now}
 use Rattle.course_laws.proofs.Steps.{left_of, home_of}
 use Rattle.lane_run.specs.Groups.{StandsOver}
-use Rattle.lane_run.specs.Live.{Live, or_below, home_here, sector_or, sector_here, first_mode, put_home, write_of, brought, shared, with_first, put_at, noted}
+use Rattle.lane_run.specs.Live.{Live, is_taken, is_change_at, or_below, home_here, sector_or, sector_here, first_mode, put_home, write_of, brought, shared, with_first, put_at, noted}
 use Rattle.lane_run.proofs.Places.{IsNew, new_elsewhere, named_more, find_beside, find_new, any_last, all_more}
 use Rattle.lane_run.proofs.PutHomes.{entry_at-put_home}
 
@@ -56,6 +56,7 @@ NoOtherThere key_of content p = key_of content ≡ p.key → content ≡ p.conte
 -- the definitions' course beside the group so far: these fresh places are left of it
 pub record IsCourse (key_of : List ℕ → Key) (image : Image) (held : Held) (s : Standing) (moment : ℕ) (others : List (List ℕ)) (live : Live) (more : List ℕ) (course : Course) : Type 0 where
   pub slots : slots_after live.slots held.slots ≡ map slot_of course.pool.pointers
+  pub taken : (slot : ℕ) → is_taken held live slot ≡ list_any (is_at 0 slot) course.pool.pointers
   pub homes : (key : Key) → home_here held.table live.homes key ≡ home_of (opening_of key_of s moment) course key
   pub keys : live.keys ≡ length (keys_in course.pool)
   pub touched : course.touched ≡ live.named
@@ -179,3 +180,42 @@ untracked_other key p other = elim (is_tracked p.mark) as (λ b. (b && key_eq p.
 
 pub untracked_any : (key : Key) (p : Pointer) → is_tracked p.mark ≡ false → tracks key p ≡ false
 untracked_any key p uncounted = ap (λ b. b && key_eq p.key key) uncounted
+
+-- a test passes on a longer list where it passes on the shorter, or on the new pointer
+pub any_inserted : (test : Pointer → Bool) (p : Pointer) (ps : List Pointer) → list_any test (insert_pointer p ps) ≡ (test p || list_any test ps)
+any_inserted test p [] = refl
+any_inserted test p (q ∷ qs) =
+    elim (comes_before p q) as (λ b. list_any test (cond b (p ∷ q ∷ qs) (q ∷ insert_pointer p qs)) ≡ (test p || (test q || list_any test qs)))
+    [ true ↦ refl | false ↦ ap (λ b. test q || b) (any_inserted test p qs) ∙ turned (test q) (test p) (list_any test qs) ]
+  where
+    turned : (a b c : Bool) → (a || (b || c)) ≡ (b || (a || c))
+    turned true true c = refl
+    turned true false c = refl
+    turned false b c = refl
+
+any_appended : {X : Type 0} (test : X → Bool) (xs : List X) (x : X) → list_any test (xs ++ x ∷ []) ≡ (list_any test xs || test x)
+any_appended test [] x = elim (test x) as (λ b. (b || false) ≡ b) [ true ↦ refl | false ↦ refl ]
+any_appended test (y ∷ ys) x = ap (λ b. test y || b) (any_appended test ys x) ∙ nested (test y) (list_any test ys) (test x)
+  where
+    nested : (a b c : Bool) → (a || (b || c)) ≡ ((a || b) || c)
+    nested true b c = refl
+    nested false b c = refl
+
+-- a slot is taken where it was before, or by the pointer that comes
+pub taken_more : (held_slots : Bool) (changes : List SlotChange) (p : Pointer) (ps : List Pointer) (slot : ℕ) → (held_slots || list_any (is_change_at slot) changes) ≡ list_any (is_at 0 slot) ps
+    → (held_slots || list_any (is_change_at slot) (changes ++ change_to p ∷ [])) ≡ list_any (is_at 0 slot) (insert_pointer p ps)
+taken_more held_slots changes p ps slot was =
+    ap (λ b. held_slots || b) (any_appended (is_change_at slot) changes (change_to p))
+    ∙ turned held_slots (list_any (is_change_at slot) changes) (is_at 0 slot p)
+    ∙ ap (λ b. is_at 0 slot p || b) was
+    ∙ sym (any_inserted (is_at 0 slot) p ps)
+  where
+    turned : (a b c : Bool) → (a || (b || c)) ≡ (c || (a || b))
+    turned true true true = refl
+    turned true true false = refl
+    turned true false true = refl
+    turned true false false = refl
+    turned false true true = refl
+    turned false true false = refl
+    turned false false true = refl
+    turned false false false = refl
