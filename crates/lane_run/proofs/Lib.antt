@@ -1,7 +1,9 @@
 pub mod Choices
 pub mod Courses
+pub mod Knowing
 pub mod Openings
 pub mod Places
 pub mod PutHomes
 pub mod Spots
 pub mod Stored
+pub mod Turns
