@@ -29,47 +29,17 @@ use Rattle.held_laws.proofs.BlocksOf.{block_cut}
 use Rattle.table_laws.proofs.Keys.{keys_in-untracked, length-keys_in_new, keys_in-counted}
 use Rattle.course_laws.proofs.Pointers.{all_insert, all_from, filter_insert, none_insert, tracks-key}
 use Rattle.course_laws.proofs.Homes.{left_by, left_after, home_now, left_by-later, home_now-later, none_now}
-use Rattle.course_laws.proofs.Steps.{left_of, home_of}
+use Rattle.course_laws.proofs.Steps.{left_of, home_of, home_of-known}
 use Rattle.lane_run.specs.Groups.{StandsOver}
 use Rattle.lane_run.specs.Live.{Live, is_taken, is_change_at, or_below, home_here, sector_or, sector_here, first_mode, put_home, write_of, brought, shared, with_first, put_at, noted}
+use Rattle.lane_run.specs.Going.{IsCourse}
 use Rattle.lane_run.proofs.Places.{IsNew, new_elsewhere, named_more, find_beside, find_new, any_last, all_more}
 use Rattle.lane_run.proofs.PutHomes.{entry_at-put_home}
 
--- what has to hold of the contents, so that a shared block is what its pointers wrote: where bytes are never compared, no content may have another's key
-abbrev pub Trusted : Mode → (List ℕ → Key) → Standing → (others : List (List ℕ)) → Type 0
-Trusted Off key_of s others = Unit {0}
-Trusted On key_of s others = AllByRecursion (HasNoOther key_of s others) others
-Trusted Verify key_of s others = Unit {0}
-
--- a pointer's block stands at its place
-abbrev pub Stands : Image → List Stored → Pointer → Type 0
-Stands image contents p = p.content ≡ take p.key.len (sector_here image contents p.place)
-
--- a pointer's place has a name, and its key a length
-pub record IsPlaced (used : List Bool) (contents : List Stored) (p : Pointer) : Type 0 where
-  pub named : IsNamed used contents p.place
-  pub long : 0 < p.key.len
-
-abbrev pub NoOtherThere : (List ℕ → Key) → (content : List ℕ) → Pointer → Type 0
-NoOtherThere key_of content p = key_of content ≡ p.key → content ≡ p.content
-
--- the definitions' course beside the group so far: these fresh places are left of it
-pub record IsCourse (key_of : List ℕ → Key) (image : Image) (held : Held) (s : Standing) (moment : ℕ) (others : List (List ℕ)) (live : Live) (more : List ℕ) (course : Course) : Type 0 where
-  pub slots : slots_after live.slots held.slots ≡ map slot_of course.pool.pointers
-  pub taken : (slot : ℕ) → is_taken held live slot ≡ list_any (is_at 0 slot) course.pool.pointers
-  pub homes : (key : Key) → home_here held.table live.homes key ≡ home_of (opening_of key_of s moment) course key
-  pub keys : live.keys ≡ length (keys_in course.pool)
-  pub touched : course.touched ≡ live.named
-  pub told : course.replies ≡ live.replies
-  pub given_runs : course.given ≡ map (λ place. (place, 1)) (block_places live.contents)
-  pub fresh : course.fresh ≡ more ∷ replicate 15 []
-  pub modes : course.pool.modes ≡ held.modes
-  pub quota : course.pool.quota ≡ held.quota
-  pub kept : (key : Key) → tracked_at course.pool key ≡ [] → (last_tracked key course.earlier ≡ None) × (tracked_at s.pool key ≡ [])
-  pub unused : AllByRecursion (λ stored. slice_index_or held.used stored.place true ≡ false) live.contents
-  pub pointers : AllByRecursion (IsPlaced held.used live.contents) course.pool.pointers
-  pub honest : (content : List ℕ) → HasNoOther key_of s others content → AllByRecursion (NoOtherThere key_of content) course.pool.pointers
-  pub faithful : Trusted (first_mode held.modes) key_of s others → AllByRecursion (Stands image live.contents) course.pool.pointers
+-- the home that the course knows, by its pointers
+pub homes_of : {key_of : List ℕ → Key} {image : Image} {held : Held} {s : Standing} {moment : ℕ} {others : List (List ℕ)} {live : Live} {more : List ℕ} {course : Course} → IsCourse key_of image held s moment others live more course
+    → (key : Key) → home_here held.table live.homes key ≡ home_of (opening_of key_of s moment) course key
+homes_of {key_of = key_of} {s = s} {moment = moment} {course = course} w key = w.homes key ∙ home_of-known (opening_of key_of s moment) course key
 
 -- ---- The list of pointers that pass, with one more
 

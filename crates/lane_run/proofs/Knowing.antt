@@ -28,7 +28,8 @@ use Rattle.lane_run.specs.Groups.{StandsOver}
 use Rattle.lane_run.specs.Live.{Live, home_here, sector_or, sector_here, known_by, first_mode, opening_over}
 use Rattle.lane_run.proofs.Places.{find_none, not_used}
 use Rattle.lane_run.proofs.Openings.{table_sorted, waiting_is_used}
-use Rattle.lane_run.proofs.Courses.{Trusted, Stands, NoOtherThere, IsCourse}
+use Rattle.lane_run.specs.Going.{Trusted, Stands, NoOtherThere, IsCourse}
+use Rattle.lane_run.proofs.Courses.{homes_of}
 use Rattle.lane_run.proofs.Spots.{none_there, waits_there}
 
 -- a known home is a home
@@ -75,14 +76,14 @@ module _ (key_of : List ℕ → Key) (image : Image) (held : Held) (s : Standing
       by_list [] none =
           known_by_table key none
           ∙ by_found none (found s.table key) refl
-          ∙ ap (known_by image live.contents key) (sym (w.homes key ∙ none_there key_of image held s moment others over live more course w key none))
+          ∙ ap (known_by image live.contents key) (sym (homes_of w key ∙ none_there key_of image held s moment others over live more course w key none))
       by_list (t ∷ rest) some =
           let has = first_has (Stands image live.contents) (tracks key) course.pool.pointers t rest some (w.faithful trusted) in
           let key_is : t.key ≡ key = (tracks-key key t has.1).1 in
           let block : t.content ≡ take key.len (sector_here image live.contents t.place) = has.0 ∙ ap (λ (k : Key). take k.len (sector_here image live.contents t.place)) key_is in
           known_by_pointer key t rest some
           ∙ (λ i. Some (record { home = home_at t (length (t ∷ rest)); block = block i }))
-          ∙ ap (known_by image live.contents key) (sym (w.homes key ∙ ap (home_now (left_of (opening_of key_of s moment) course key)) some))
+          ∙ ap (known_by image live.contents key) (sym (homes_of w key ∙ ap (home_now (left_of (opening_of key_of s moment) course key)) some))
 
   block_of : Option Known → List ℕ → List ℕ
   block_of None other = other

@@ -26,12 +26,13 @@ use Rattle.table_laws.proofs.Keys.{keys_in-untracked, length-keys_in_new, keys_i
 use Rattle.course_laws.proofs.Pointers.{all_insert, all_from, all_from_both, none_insert, first_has}
 use Rattle.course_laws.proofs.Homes.{left_by, home_now, none_now, uncounted_zero}
 use Rattle.course_laws.proofs.Rows.{FitsHome, FitsFresh, outside, first}
-use Rattle.course_laws.proofs.Steps.{left_of, home_of}
+use Rattle.course_laws.proofs.Steps.{left_of, home_of, home_of-known}
 use Rattle.lane_run.specs.Groups.{StandsOver}
 use Rattle.lane_run.specs.Live.{Live, or_below, home_here, sector_or, sector_here, first_mode, put_home, write_of, shared, with_first, put_at, noted}
 use Rattle.lane_run.proofs.Places.{IsNew, new_elsewhere, named_more, find_beside, find_new, any_last, all_more}
 use Rattle.lane_run.proofs.Openings.{waiting_is_used, homes_match}
-use Rattle.lane_run.proofs.Courses.{Trusted, Stands, IsPlaced, NoOtherThere, IsCourse, home_passed, home_joined, home_made, home_here-put, tracked_under, untracked_other, untracked_any, taken_more}
+use Rattle.lane_run.specs.Going.{Trusted, Stands, IsPlaced, NoOtherThere, IsCourse}
+use Rattle.lane_run.proofs.Courses.{homes_of, home_passed, home_joined, home_made, home_here-put, tracked_under, untracked_other, untracked_any, taken_more}
 
 counts_all : (left : Option Home) (ts : List Pointer) (home : Home) → home_now left ts ≡ Some home → (ts ≡ [] → home.count ≡ 0) → length ts ≡ home.count
 counts_all left [] home is none = sym (none refl)
@@ -136,7 +137,7 @@ module _ (key_of : List ℕ → Key) (image : Image) (held : Held) (s : Standing
           by_key true one =
               subst (λ (x : Key). Some (shared (key_of content) home mark).home ≡ home_now (left_by (found s.table x) (last_tracked x (course.pool ∷ course.earlier))) (filter (tracks x) (insert_pointer p ps))) (key_eq-true (key_of content) k one)
               (sym (home_joined (left_of (opening_of key_of s moment) course (key_of content)) (left_by (found s.table (key_of content)) (last_tracked (key_of content) (course.pool ∷ course.earlier))) (tracks (key_of content)) p ps home counts_itself fits.is zero_if_none refl refl since_is))
-          by_key false other = w.homes k ∙ sym (home_passed (found s.table k) (last_tracked k course.earlier) (tracks k) p ps (untracked_other k p other))
+          by_key false other = homes_of w k ∙ sym (home_passed (found s.table k) (last_tracked k course.earlier) (tracks k) p ps (untracked_other k p other))
 
       keys_on : live.keys + cond (home.count == 0) 1 0 ≡ length (keys_in (with_pointer course.pool p))
       keys_on = by_list (filter (tracks (key_of content)) ps) refl
@@ -169,7 +170,7 @@ module _ (key_of : List ℕ → Key) (image : Image) (held : Held) (s : Standing
       home_on number place = record {
         slots = slots_on live more course p w empty;
         taken = λ at. taken_more (list_any (is_slot_at 0 at) held.slots) live.slots p ps at (w.taken at);
-        homes = homes_on;
+        homes = λ k. homes_on k ∙ sym (home_of-known (opening_of key_of s moment) (record course { pool = with_pointer course.pool p; earlier = course.pool ∷ course.earlier }) k);
         keys = keys_on;
         touched = w.touched;
         told = w.told;
@@ -211,7 +212,7 @@ module _ (key_of : List ℕ → Key) (image : Image) (held : Held) (s : Standing
       later_home k = home_now (left_by (found s.table k) (last_tracked k (course.pool ∷ course.earlier))) (filter (tracks k) (insert_pointer q qs))
 
       homes_beside : is_tracked mark ≡ false → (k : Key) → home_here held.table live.homes k ≡ later_home k
-      homes_beside uncounts k = w.homes k ∙ sym (home_passed (found s.table k) (last_tracked k course.earlier) (tracks k) q qs (untracked_any k q uncounts))
+      homes_beside uncounts k = homes_of w k ∙ sym (home_passed (found s.table k) (last_tracked k course.earlier) (tracks k) q qs (untracked_any k q uncounts))
 
       homes_with : (since : ℕ) → is_tracked mark ≡ true → since_of mark ≡ since → (k : Key)
           → home_here held.table (put_home (record { key = key_of content; home = record { place = place; birth = s.pool.group + 1; since = since; count = 1 } }) live.homes) k ≡ later_home k
@@ -223,7 +224,7 @@ module _ (key_of : List ℕ → Key) (image : Image) (held : Held) (s : Standing
               subst (λ (x : Key). Some (record { place = place; birth = s.pool.group + 1; since = since; count = 1 }) ≡ later_home x) (key_eq-true (key_of content) k same)
               ((λ i. Some (record { place = place; birth = s.pool.group + 1; since = sym since_is i; count = 1 }))
               ∙ sym (home_made (left_by (found s.table (key_of content)) (last_tracked (key_of content) (course.pool ∷ course.earlier))) (tracks (key_of content)) q qs (tracked_under (key_of content) q true counts (key_eq-same (key_of content))) (first_of_key counts)))
-          by_key false other = w.homes k ∙ sym (home_passed (found s.table k) (last_tracked k course.earlier) (tracks k) q qs (untracked_other k q other))
+          by_key false other = homes_of w k ∙ sym (home_passed (found s.table k) (last_tracked k course.earlier) (tracks k) q qs (untracked_other k q other))
 
       keys_beside : is_tracked mark ≡ false → live.keys + 0 ≡ length (keys_in (with_pointer course.pool q))
       keys_beside uncounts = let plus : live.keys + 0 ≡ live.keys = omega arith in plus ∙ w.keys ∙ sym (ap length (keys_in-untracked course.pool q uncounts))
@@ -270,7 +271,7 @@ module _ (key_of : List ℕ → Key) (image : Image) (held : Held) (s : Standing
       made_on homes keys homes_are keys_are = record {
         slots = slots_on live (place ∷ more) course q w empty;
         taken = λ at. taken_more (list_any (is_slot_at 0 at) held.slots) live.slots q qs at (w.taken at);
-        homes = homes_are;
+        homes = λ k. homes_are k ∙ sym (home_of-known (opening_of key_of s moment) (made place (more ∷ replicate 15 [])) k);
         keys = keys_are;
         touched = w.touched;
         told = w.told;

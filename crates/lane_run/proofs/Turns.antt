@@ -24,7 +24,8 @@ use Rattle.course_laws.proofs.Steps.{home_of, home_of-known}
 use Rattle.lane_run.specs.Groups.{StandsOver}
 use Rattle.lane_run.specs.Live.{Live, is_taken, home_here, sector_here, known_by, first_mode, mode_here, row_here, write_of, put_at, after_row}
 use Rattle.lane_run.proofs.Places.{IsNew}
-use Rattle.lane_run.proofs.Courses.{Trusted, IsCourse}
+use Rattle.lane_run.specs.Going.{Trusted, IsCourse}
+use Rattle.lane_run.proofs.Courses.{homes_of}
 use Rattle.lane_run.proofs.Spots.{noted_on, home_on, fresh_on}
 use Rattle.lane_run.proofs.Knowing.{home_of-known_by, known_same, trusted_block, mode_same, SharesBytes, verify_shares}
 
@@ -61,7 +62,7 @@ module _ (key_of : List ℕ → Key) (image : Image) (held : Held) (s : Standing
     mode_is = ap first_mode w.modes
 
     same_homes : option_map (λ k. k.home) (known_home (opening_of key_of s moment) course (key_of content)) ≡ option_map (λ k. k.home) (known_by image live.contents (key_of content) (home_here held.table live.homes (key_of content)))
-    same_homes = home_of-known (opening_of key_of s moment) course (key_of content) ∙ sym (w.homes (key_of content)) ∙ sym (home_of-known_by image live.contents (key_of content) (home_here held.table live.homes (key_of content)))
+    same_homes = home_of-known (opening_of key_of s moment) course (key_of content) ∙ sym (homes_of w (key_of content)) ∙ sym (home_of-known_by image live.contents (key_of content) (home_here held.table live.homes (key_of content)))
 
     verified_known : first_mode held.modes ≡ Verify → known_home (opening_of key_of s moment) course (key_of content) ≡ known_by image live.contents (key_of content) (home_here held.table live.homes (key_of content))
     verified_known verifies = known_same key_of image held s moment others over live more course w (subst (λ (m : Mode). Trusted m key_of s others) (sym verifies) tt) (key_of content)
@@ -96,7 +97,7 @@ module _ (key_of : List ℕ → Key) (image : Image) (held : Held) (s : Standing
 
     known_at : (home : Home) → home_of (opening_of key_of s moment) course (key_of content) ≡ Some home → Trusted (first_mode held.modes) key_of s others
         → known_home (opening_of key_of s moment) course (key_of content) ≡ Some (record { home = home; block = take (key_of content).len (sector_here image live.contents home.place) })
-    known_at home is trusted = known_same key_of image held s moment others over live more course w trusted (key_of content) ∙ ap (known_by image live.contents (key_of content)) (w.homes (key_of content) ∙ is)
+    known_at home is trusted = known_same key_of image held s moment others over live more course w trusted (key_of content) ∙ ap (known_by image live.contents (key_of content)) (homes_of w (key_of content) ∙ is)
 
     -- a write that shares a home has that home's bytes
     shares : chosen ≡ their_row → ((P : List ℕ → Type 0) → AllByRecursion P others → P content) → (home : Home) (mark : Mark) → chosen.spot ≡ at_home home mark → home_of (opening_of key_of s moment) course (key_of content) ≡ Some home
