@@ -185,3 +185,9 @@ lane_done told key_of held moment commands places start i before now live all la
           subst (λ (c : Course). IsCourse key_of image held s moment (contents_in (map task_of commands)) live [] c)
           (λ j. first_course key_of s moment (append-nil (block_places live.contents) j) (turns_from (map task_of (whole j)) live.replies)) (lane.going image s is over []);
     }
+
+-- what stands at a place of a list stands there whatever stands elsewhere
+pub at_default : (xs : List ℕ) (n d e : ℕ) → n < length xs → get_or xs n d ≡ get_or xs n e
+at_default [] n d e below = absurd (omega (arith, below))
+at_default (x ∷ xs) zero d e below = refl
+at_default (x ∷ xs) (suc n) d e below = at_default xs n d e (omega (arith, below))

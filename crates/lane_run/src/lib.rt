@@ -11,6 +11,8 @@
 
 mod block;
 mod choosing;
+mod closing;
+mod lane;
 mod live;
 mod run;
 mod writing;

@@ -116,18 +116,29 @@ fn brought(slot: u32, key: Key, place: u64, birth: u64, kind: SlotKind) -> SlotC
 }
 
 impl LiveGroup {
-    /// A group before its first write, in a pool with so many counted keys.
-    pub fn opened(alloc: Global, keys: u64) -> LiveGroup
-        ensures { result ≡ record { slots = []; contents = []; homes = []; named = []; keys = keys; replies = [] } }
+    /// A group before its first write, in a pool with so many counted keys. There is room for so many writes; the
+    /// error is want of memory.
+    pub fn opened(alloc: Global, keys: u64, room: u64) -> Result<LiveGroup, AllocError>
+        ensures { IfOk result (λ live. live ≡ record { slots = []; contents = []; homes = []; named = []; keys = keys; replies = [] }) }
     {
-        LiveGroup {
-            slots: SlotChanges::new(alloc),
-            contents: Contents::new(alloc),
-            homes: Vec::new(alloc),
-            named: Vec::new(alloc),
+        let mut slots = SlotChanges::new(alloc);
+        slots.reserve(room)?;
+        let mut contents = Contents::new(alloc);
+        contents.reserve(room)?;
+        let mut homes = Vec::new(alloc);
+        homes.reserve(room as usize)?;
+        let mut named = Vec::new(alloc);
+        named.reserve(room as usize)?;
+        let mut answers = Answers::new(alloc);
+        answers.reserve(room)?;
+        Ok(LiveGroup {
+            slots,
+            contents,
+            homes,
+            named,
             keys,
-            answers: Answers::new(alloc),
-        }
+            answers,
+        })
     }
 
     /// The home of a key: the group's, or else the table's.

@@ -28,7 +28,6 @@ fn uses_table(mode: Mode) -> bool
 
 /// Writes a block to a slot of lane 0, where this place is the group's next fresh one. The error is want of memory.
 fn write<D: Disk, K: KeyOf>(
-    alloc: Global,
     pool: &Pool,
     disk: &D,
     meter: &mut D::Meter,
@@ -98,7 +97,6 @@ pub fn turn<D: Disk, K: KeyOf>(
     };
     let content = spread(alloc, payload)?;
     write(
-        alloc,
         pool,
         disk,
         meter,
