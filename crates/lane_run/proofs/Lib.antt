@@ -1,3 +1,4 @@
+pub mod Changes
 pub mod Choices
 pub mod Courses
 pub mod Knowing
