@@ -3,6 +3,7 @@ pub mod Choices
 pub mod Courses
 pub mod Knowing
 pub mod Lanes
+pub mod Leaving
 pub mod Opened
 pub mod Openings
 pub mod Places
