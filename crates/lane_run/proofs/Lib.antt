@@ -12,3 +12,4 @@ pub mod Ranges
 pub mod Spots
 pub mod Stored
 pub mod Turns
+pub mod Whole

@@ -8,7 +8,7 @@ use Rattle.disk_model.specs.Images.{Image}
 use Rattle.pool_model.specs.declared.commands.Mode.{Mode}
 use Rattle.pool_model.specs.declared.commands.Mode.TheVariants.{Off, On, Verify}
 use Rattle.pool_model.specs.Pool.{Pointer, is_at, tracked_at, keys_in}
-use Rattle.pool_model.specs.Plain.{Task, Reply, Stored}
+use Rattle.pool_model.specs.Plain.{Task, Reply, Stored, LaneTold}
 use Rattle.pool_model.specs.Clash.{HasNoOther, contents_in}
 use Rattle.pool_model.specs.Command.{Opening, Turn, Course, known_home, last_tracked, is_fault}
 use Rattle.pool_model.specs.Group.{Standing, opening_of, course_of}
@@ -76,3 +76,8 @@ pub record HasRun (told : Option Image) (key_of : List ℕ → Key) (held : Held
   pub counts : min (before + count_by is_fault live.replies) (2 ^ 64 - 1) ≤ now
   pub course : (image : Image) (s : Standing) → told ≡ Some image → StandsOver image held s
       → IsCourse key_of image held s moment (contents_in tasks) live [] (first_course key_of s moment (block_places live.contents) (turns_from tasks live.replies))
+
+-- the notes of a group's lanes: lane 0 alone, where it has commands
+abbrev pub lanes_here : (tasks : List Task) → List Reply → (given : List ℕ) → (faults : ℕ) → List LaneTold
+lanes_here [] replies given faults = []
+lanes_here (task ∷ tasks) replies given faults = record { lane = 0; replies = replies; fresh = given; faults = faults } ∷ []
