@@ -92,14 +92,14 @@ pub writes_all : (tasks : List Task) → AllByRecursion IsFirstWrite tasks → w
 writes_all [] all = refl
 writes_all (t ∷ ts) all =
     let sum : writes_in (t ∷ ts) ≡ cond (is_write t.act) 1 0 + writes_in ts = sum_by-cons (λ (x : Task). cond (is_write x.act) 1 0) t ts in
-    let here : cond (is_write t.act) 1 0 ≡ 1 = ap (λ b. cond b 1 0) (write_tests t.act all.0.block).0 in
+    let here : cond {A = ℕ} (is_write t.act) 1 0 ≡ 1 = ap (λ b. cond b 1 0) (write_tests t.act all.0.block).0 in
     omega (arith, sum, here, writes_all ts all.1)
 
 frees_none : (tasks : List Task) → AllByRecursion IsFirstWrite tasks → count_by (λ task. is_free_act task.act) tasks ≡ 0
 frees_none [] all = refl
 frees_none (t ∷ ts) all =
     let sum : count_by (λ task. is_free_act task.act) (t ∷ ts) ≡ cond (is_free_act t.act) 1 0 + count_by (λ task. is_free_act task.act) ts = sum_by-cons (λ (x : Task). cond (is_free_act x.act) 1 0) t ts in
-    let here : cond (is_free_act t.act) 1 0 ≡ 0 = ap (λ b. cond b 1 0) (write_tests t.act all.0.block).1 in
+    let here : cond {A = ℕ} (is_free_act t.act) 1 0 ≡ 0 = ap (λ b. cond b 1 0) (write_tests t.act all.0.block).1 in
     omega (arith, sum, here, frees_none ts all.1)
 
 pub changes_all : (tasks : List Task) → AllByRecursion IsFirstWrite tasks → changes_in tasks ≡ length tasks

@@ -1,5 +1,5 @@
 -- A group of writes of lane 0 as the definitions run it, beside what the code has of it.
-use Rattle.std.specs.Prelude.{◌≡◌, ℕ, ◌+◌, ◌-◌, ◌^◌, ◌<◌, ◌≤◌, min, ⊤, Bool, true, false, List, [], ◌∷◌, ◌++◌, length, map, take, replicate, Option, Some, None, slice_index_or}
+use Rattle.std.specs.Prelude.{◌≡◌, ℕ, ◌+◌, ◌-◌, ◌^◌, ◌<◌, ◌≤◌, min, ⊤, Bool, true, false, List, [], ◌∷◌, ◌++◌, length, map, take, replicate, Option, Some, None, Result, Ok, Err, slice_index_or}
 use Rattle.std.specs.List.{AllByRecursion, count_by, list_any, zip}
 use Rattle.std.specs.Option.{option_map}
 use Rattle.ddt_entry.specs.declared.key.Key.{Key}
@@ -7,6 +7,11 @@ use Rattle.ddt_entry.specs.declared.entry.Home.{Home}
 use Rattle.disk_model.specs.Images.{Image}
 use Rattle.pool_model.specs.declared.commands.Mode.{Mode}
 use Rattle.pool_model.specs.declared.commands.Mode.TheVariants.{Off, On, Verify}
+use Rattle.disk_model.specs.Faults.{Rose}
+use Rattle.pool_model.specs.declared.faults.GroupFault.{GroupFault}
+use Rattle.pool_model.specs.declared.faults.GroupFault.TheVariants as faults
+use Rattle.pool_model.specs.declared.notes.Outcome.{Outcome}
+use Rattle.pool_model.specs.declared.notes.Outcome.TheVariants as outcomes
 use Rattle.pool_model.specs.Pool.{Pointer, is_at, tracked_at, keys_in}
 use Rattle.pool_model.specs.Plain.{Task, Reply, Stored, LaneTold}
 use Rattle.pool_model.specs.Clash.{HasNoOther, contents_in}
@@ -81,3 +86,26 @@ pub record HasRun (told : Option Image) (key_of : List ℕ → Key) (held : Held
 abbrev pub lanes_here : (tasks : List Task) → List Reply → (given : List ℕ) → (faults : ℕ) → List LaneTold
 lanes_here [] replies given faults = []
 lanes_here (task ∷ tasks) replies given faults = record { lane = 0; replies = replies; fresh = given; faults = faults } ∷ []
+
+-- how a group may open: with room, or by want of room, or where the disk gave no meter
+abbrev pub Opens : (lacks : Option Outcome) → (before now : ℕ) → Result (Unit {0}) GroupFault → Type 0
+Opens lacks before now (Ok done) = lacks ≡ None
+Opens lacks before now (Err (faults.NoSpace needed left)) = lacks ≡ Some (outcomes.NoSpace needed left)
+Opens lacks before now (Err faults.ReadFault) = ⊥
+Opens lacks before now (Err faults.WriteFault) = Rose before now
+Opens lacks before now (Err (faults.Damaged sector)) = ⊥
+Opens lacks before now (Err faults.Memory) = ⊥
+
+-- how a lane may fail: for want of memory, or where the disk gave no meter
+abbrev pub OnlyMeter : {T : Type 0} → (before now : ℕ) → Result T GroupFault → Type 0
+OnlyMeter before now (Ok done) = ⊤
+OnlyMeter before now (Err (faults.NoSpace needed left)) = ⊥
+OnlyMeter before now (Err faults.ReadFault) = ⊥
+OnlyMeter before now (Err faults.WriteFault) = Rose before now
+OnlyMeter before now (Err (faults.Damaged sector)) = ⊥
+OnlyMeter before now (Err faults.Memory) = ⊤
+
+-- the writes were done over these contents, where they are told
+abbrev pub HasRunOver : Option Image → (List ℕ → Key) → Held → (moment : ℕ) → List Task → (places : List ℕ) → (faults : ℕ) → Live → Type 0
+HasRunOver None key_of held moment tasks places faults live = ⊤
+HasRunOver (Some image) key_of held moment tasks places faults live = HasRun (Some image) key_of held moment tasks places 0 faults live

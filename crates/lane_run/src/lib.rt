@@ -14,6 +14,7 @@ mod choosing;
 mod closing;
 mod lane;
 mod live;
+mod metering;
 mod run;
 mod writing;
 
