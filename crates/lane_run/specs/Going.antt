@@ -5,6 +5,7 @@ use Rattle.std.specs.Option.{option_map}
 use Rattle.ddt_entry.specs.declared.key.Key.{Key}
 use Rattle.ddt_entry.specs.declared.entry.Home.{Home}
 use Rattle.disk_model.specs.Images.{Image}
+use Rattle.grant_book.specs.Sectors.{AreFirstFree}
 use Rattle.pool_model.specs.declared.commands.Mode.{Mode}
 use Rattle.pool_model.specs.declared.commands.Mode.TheVariants.{Off, On, Verify}
 use Rattle.disk_model.specs.Faults.{Rose}
@@ -105,7 +106,10 @@ OnlyMeter before now (Err faults.WriteFault) = Rose before now
 OnlyMeter before now (Err (faults.Damaged sector)) = ⊥
 OnlyMeter before now (Err faults.Memory) = ⊤
 
--- the writes were done over these contents, where they are told
+-- the writes were done over these contents, where they are told: with so many faulty reads, and blocks at the first places that were free
 abbrev pub HasRunOver : Option Image → (List ℕ → Key) → Held → (moment : ℕ) → List Task → (places : List ℕ) → (faults : ℕ) → Live → Type 0
 HasRunOver None key_of held moment tasks places faults live = ⊤
 HasRunOver (Some image) key_of held moment tasks places faults live = HasRun (Some image) key_of held moment tasks places 0 faults live
+
+abbrev pub HasRunFree : Option Image → (List ℕ → Key) → Held → (moment : ℕ) → List Task → (faults : ℕ) → Live → Type 0
+HasRunFree told key_of held moment tasks faults live = (places : List ℕ) × AreFirstFree held.used (length tasks) places × HasRunOver told key_of held moment tasks places faults live
