@@ -19,7 +19,7 @@ use Rattle.table_state.specs.Pools.{Held}
 use Rattle.table_state.specs.Sound.{IsSound}
 use Rattle.txg_sync.specs.Writing.{block_places}
 use Rattle.lane_run.specs.Groups.{StandsOver, IsFirstWrite, WritesBlock}
-use Rattle.lane_run.specs.Going.{IsCourse, turns_from, first_course, HasRun}
+use Rattle.lane_run.specs.Going.{IsCourse, turns_from, first_course, HasRun, HasRunOver}
 use Rattle.lane_run.specs.Live.{Live, write_of, put_at, after_row, row_here, IsChosen, IsWritten, WritesAct, CountsFault}
 use Rattle.lane_run.proofs.Places.{IsNew}
 use Rattle.lane_run.proofs.Opened.{live_opened, course_opened}
@@ -191,3 +191,13 @@ pub at_default : (xs : List ℕ) (n d e : ℕ) → n < length xs → get_or xs n
 at_default [] n d e below = absurd (omega (arith, below))
 at_default (x ∷ xs) zero d e below = refl
 at_default (x ∷ xs) (suc n) d e below = at_default xs n d e (omega (arith, below))
+
+-- what was run over told contents was run over these
+pub run_over : (told : Option Image) (key_of : List ℕ → Key) (held : Held) (moment : ℕ) (tasks : List Task) (places : List ℕ) (faults : ℕ) (live : Live) → HasRun told key_of held moment tasks places 0 faults live → HasRunOver told key_of held moment tasks places faults live
+run_over None key_of held moment tasks places faults live has = tt
+run_over (Some image) key_of held moment tasks places faults live has = has
+
+-- a group without commands
+pub run_none : (told : Option Image) (key_of : List ℕ → Key) (held : Held) (moment : ℕ) (commands : List Command) (places : List ℕ) (keys : ℕ) → keys ≡ length (counted_homes held.table) → length commands ≡ 0
+    → HasRun told key_of held moment (map task_of commands) places 0 0 (live_opened keys)
+run_none told key_of held moment commands places keys keys_are none = lane_done told key_of held moment commands places keys 0 0 0 (live_opened keys) (sym none) (lane_opened told key_of held moment commands places keys 0 keys_are)
