@@ -1,12 +1,15 @@
 -- A whole group: its note is that of the definitions' run, and what it leaves can be synced.
 use Rattle.std.proofs.Common.{◌≡◌, ℕ, ◌+◌, ◌*◌, ◌-◌, ◌^◌, ◌<◌, ◌≤◌, ◌==◌, Bool, true, false, cond, nat_lt, min, List, [], ◌∷◌, ◌++◌, length, filter, map, replicate, Some, None, Option, refl, sym, ap, subst, zero, suc, ◌∙◌, arith, add-one, append-nil}
-use Rattle.std.specs.Prelude.{if◌then◌else◌, not}
+use Rattle.std.specs.Prelude.{if◌then◌else◌, not, Result, Ok, Err, IsErrOf}
 use Rattle.std.specs.List.{AllByRecursion, count_by, range_with_len, zip}
 use Rattle.std.proofs.lemmas.List.Sums.{sum_by-cons}
 use Rattle.std.proofs.lemmas.Bool.{lt-ltb, ne_eqb}
 use Rattle.std.proofs.lemmas.Bool.Decides.{nat_tests}
 use Rattle.ddt_entry.specs.declared.key.Key.{Key}
-use Rattle.disk_model.specs.Images.{Image}
+use Rattle.disk_model.specs.Images.{Image, Stays}
+use Rattle.pool_model.specs.declared.faults.GroupFault.{GroupFault}
+use Rattle.pool_model.specs.declared.faults.GroupFault.TheVariants as faults
+use Rattle.pool_model.specs.declared.notes.Outcome.{Outcome}
 use Rattle.grant_book.specs.Sectors.{AreFirstFree}
 use Rattle.pool_model.specs.declared.commands.Mode.{Mode}
 use Rattle.pool_model.specs.declared.commands.Mode.TheVariants.{Off, On, Verify}
@@ -23,7 +26,7 @@ use Rattle.table_state.specs.Pools.{Held}
 use Rattle.txg_sync.specs.Syncing.{CanSync, group_pool, table_after}
 use Rattle.txg_sync.specs.Writing.{block_places}
 use Rattle.lane_run.specs.Groups.{StandsOver, IsFirstWrite, WritesBlock, HasNoClash, KeepsWaiting, IsRunFrom}
-use Rattle.lane_run.specs.Going.{IsCourse, Trusted, turns_from, first_course, HasRun, lanes_here}
+use Rattle.lane_run.specs.Going.{IsCourse, Trusted, turns_from, first_course, HasRun, HasRunOver, Opens, lanes_here}
 use Rattle.lane_run.specs.Live.{Live, first_mode, group_here}
 use Rattle.lane_run.proofs.Leaving.{fresh_given, table_is, pool_stands, can_sync, keeps_waiting}
 
@@ -193,3 +196,35 @@ module _ (key_of : List ℕ → Key) (image : Image) (held : Held) (s : Standing
         ∙ sym (ap (λ (x : Standing). x.pool) as_sealed);
     waiting = subst (KeepsWaiting image held) (sym as_sealed) (keeps_waiting key_of image held s over moment tasks firsts (length tasks) places are_free live has.places_are w);
   }
+
+-- what a group of writes needs, by its commands or by their number
+pub room_same : (left pages limit writes : ℕ) (tasks : List Task) → AllByRecursion IsFirstWrite tasks → writes ≡ length tasks → space_lacking left (need pages limit writes writes) ≡ space_lacking left (need pages limit (changes_in tasks) (writes_in tasks))
+room_same left pages limit writes tasks all count = λ i. space_lacking left (need pages limit ((count ∙ sym (changes_all tasks all)) i) ((count ∙ sym (writes_all tasks all)) i))
+
+-- a group that didn't open for want of room
+pub unopened : {T : Type 0} (lacks other : Option Outcome) (before now : ℕ) (opened : Result (Unit {0}) GroupFault) (r : Result T GroupFault) (needed left : ℕ) → (IsErrOf r (faults.NoSpace needed left) → IsErrOf opened (faults.NoSpace needed left)) → Opens lacks before now opened → lacks ≡ other
+    → IsErrOf r (faults.NoSpace needed left) → other ≡ Some (NoSpace needed left)
+unopened lacks other before now opened r needed left leads opens same is = sym same ∙ by_result opened opens (leads is)
+  where
+    by_fault : (fault : GroupFault) → Opens lacks before now (Err fault) → IsErrOf {T = Unit {0}} (Err fault) (faults.NoSpace needed left) → lacks ≡ Some (NoSpace needed left)
+    by_fault (faults.NoSpace n l) opens is =
+        let a : n ≡ needed = cc is in
+        let b : l ≡ left = cc is in
+        opens ∙ (λ i. Some (NoSpace (a i) (b i)))
+    by_fault faults.ReadFault opens is = absurd opens
+    by_fault faults.WriteFault opens is = absurd (cc is)
+    by_fault (faults.Damaged sector) opens is = absurd opens
+    by_fault faults.Memory opens is = absurd opens
+
+    by_result : (o : Result (Unit {0}) GroupFault) → Opens lacks before now o → IsErrOf o (faults.NoSpace needed left) → lacks ≡ Some (NoSpace needed left)
+    by_result (Ok done) opens is = absurd (cc is)
+    by_result (Err fault) opens is = by_fault fault opens is
+
+-- what was run over told contents
+pub over_told : (told : Option Image) (key_of : List ℕ → Key) (held : Held) (moment : ℕ) (tasks : List Task) (places : List ℕ) (faults : ℕ) (live : Live) (image : Image) → told ≡ Some image → HasRunOver told key_of held moment tasks places faults live → HasRun (Some image) key_of held moment tasks places 0 faults live
+over_told told key_of held moment tasks places faults live image is has = subst (λ (o : Option Image). HasRunOver o key_of held moment tasks places faults live) is has
+
+-- contents that stay are told again
+pub told_still : (old new : Option Image) (image : Image) → Stays old new → old ≡ Some image → new ≡ Some image
+told_still None new image stays is = absurd (cc is)
+told_still (Some there) new image stays is = stays ∙ is

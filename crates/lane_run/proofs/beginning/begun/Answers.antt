@@ -14,7 +14,7 @@ pub returns-then-is_empty-clause-run : goal.returns-then-is_empty-clause-run
 returns-then-is_empty-clause-run g c =
     let used_is : c.pool.inside.used ≡ c.args.pool.now.used = ap (λ (h : Held). h.used) c.pool.view_is in
     let found : AreFirstFree c.pool.inside.used (length c.args.commands.now) c.in-Some.places.items = rw c.in-Some.is at c.in-Ok.ensures in
-    let none : length c.args.commands.now ≡ 0 = omega (arith, c.is_empty.ensures, c.if-is_empty.true) in
+    let none : length c.args.commands.now ≡ 0 = eqb-true (length c.args.commands.now) 0 (sym c.is_empty.ensures ∙ c.if-is_empty.true) in
     (
       c.in-Some.places.items,
       subst (λ (used : List Bool). AreFirstFree used (length (map task_of c.args.commands.now)) c.in-Some.places.items) used_is (subst (λ n. AreFirstFree c.pool.inside.used n c.in-Some.places.items) (sym (length-map c.args.commands.now task_of)) found),
