@@ -1,14 +1,14 @@
-mod Aside
-mod Counts
-mod Courses
-mod Going
-mod Homes
-mod Joining
-mod Keeping
-mod Pointers
-mod Removing
-mod Rows
-mod Settling
-mod Steps
-mod Turning
-mod Writing
+pub mod Aside
+pub mod Counts
+pub mod Courses
+pub mod Going
+pub mod Homes
+pub mod Joining
+pub mod Keeping
+pub mod Pointers
+pub mod Removing
+pub mod Rows
+pub mod Settling
+pub mod Steps
+pub mod Turning
+pub mod Writing

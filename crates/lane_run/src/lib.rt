@@ -9,6 +9,15 @@
 //! image stands for, and so are the pool and the table once the group is sealed.
 #![tactic(auto)]
 
+mod beginning;
+mod block;
+mod choosing;
+mod closing;
+mod ending;
+mod lane;
+mod live;
+mod metering;
 mod run;
+mod writing;
 
 pub use run::run_group_plain;

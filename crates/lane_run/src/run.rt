@@ -15,6 +15,9 @@ ghost use Rattle.txg_sync.specs.Planning.{group_in};
 ghost use Rattle.txg_sync.specs.Syncing.{IsInRange};
 ghost use Rattle.lane_run.specs.Groups.{IsFirstWrite, IsRunFrom, StandsOver};
 
+use crate::beginning::begun;
+use crate::ending::ended;
+use crate::metering::opens;
 use ddt_entry::KeyOf;
 use disk_model::Disk;
 use pool_model::{Closed, GroupFault, GroupNote, LanesGroup};
@@ -59,5 +62,12 @@ pub fn run_group_plain<D: Disk, K: KeyOf>(
     ensures undamaged { (sector : ℕ) → IsErrOf result (faults.Damaged sector) → ⊥ }
     ensures write_cause { IsErrOf result faults.WriteFault → Rose (D.write_faults disk.old) (D.write_faults disk.new) }
 {
-    Err(GroupFault::Memory)
+    let commands = group.commands.as_slice();
+    let writes = group.commands.len();
+    opens(pool, disk, writes)?;
+    let (live, faults) = begun(alloc, pool, disk, keyer, commands, group.moment)?;
+    let Ok(closed) = ended(alloc, pool, live, commands, faults, note) else {
+        return Err(GroupFault::Memory);
+    };
+    Ok(closed)
 }

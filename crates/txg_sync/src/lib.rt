@@ -48,7 +48,7 @@ pub use next_slots::slots_after;
 pub use part::ChainPages;
 pub use places::place_chains;
 pub use planning::{Plan, plan_group};
-pub use store::{store_group, write_blocks, write_parts};
+pub use store::{sector_of, store_group, write_blocks, write_parts};
 pub use syncing::sync;
 pub use take::take_slot;
 pub use used::used_after;

@@ -17,7 +17,7 @@ use pool_model::StoredBlock;
 
 /// A content as a sector has it: with zeros behind it.
 #[tactic(auto, unfolding(ddt_entry::specs::Bytes::zeros))]
-fn sector_of(content: &[u8]) -> [u8; 4096]
+pub fn sector_of(content: &[u8]) -> [u8; 4096]
     requires { length content.now ≤ 4096 }
     ensures { result ≡ block_sector content.now }
 {

@@ -1,0 +1,15 @@
+pub mod Changes
+pub mod Choices
+pub mod Courses
+pub mod Knowing
+pub mod Lanes
+pub mod Leaving
+pub mod Opened
+pub mod Openings
+pub mod Places
+pub mod PutHomes
+pub mod Ranges
+pub mod Spots
+pub mod Stored
+pub mod Turns
+pub mod Whole

@@ -1,0 +1,98 @@
+//! What a group takes before its writes, and its writes.
+
+ghost use Rattle.std.specs.Prelude.{◌≡◌, ◌≤◌, ◌<◌, ◌+◌, ◌-◌, ◌^◌, ℕ, List, filter, min, nat_lt, not, length, map, IfOk};
+ghost use Rattle.std.specs.List.{AllByRecursion, count_by};
+ghost use Rattle.disk_model.specs.Images.{Stays};
+ghost use Rattle.disk_model.specs.Crashes.{LeavesOnly, SameOutcomes};
+ghost use Rattle.grant_book.specs.Sectors.{AreFirstFree};
+ghost use Rattle.pool_model.specs.Plain.{task_of};
+ghost use Rattle.table_state.specs.Flat.{counted_homes};
+ghost use Rattle.table_state.specs.Sound.{IsSound};
+ghost use Rattle.lane_run.specs.Groups.{IsFirstWrite};
+ghost use Rattle.lane_run.specs.Going.{HasRunFree, HasRunOver, OnlyMeter};
+
+use crate::live::LiveGroup;
+use crate::metering::metered;
+use ddt_entry::{Entry, KeyOf};
+use disk_model::{Disk, crash_laws};
+use pool_model::{Command, GroupFault};
+use std::alloc::{AllocError, Global};
+use table_state::Pool;
+
+/// The homes that are counted.
+fn counted(mut entries: Vec<Entry>) -> Vec<Entry>
+    ensures { result.items ≡ filter (λ entry. nat_lt 0 entry.home.count) entries.items }
+{
+    entries.retain(|entry| entry.home.count > 0);
+    entries
+}
+
+/// How many items a list of entries has: each takes 72 bytes.
+fn count_entries(entries: &[Entry]) -> u64
+    ensures count { result ≡ length entries.now }
+    ensures few { result < 2 ^ 62 }
+{
+    entries.len() as u64
+}
+
+/// How many keys a pool counts. The error is want of memory.
+fn counted_keys(alloc: Global, pool: &Pool) -> Result<u64, AllocError>
+    ensures keys { IfOk result (λ keys. keys ≡ length (counted_homes pool.now.table)) }
+    ensures few { IfOk result (λ keys. keys < 2 ^ 62) }
+{
+    let entries = counted(pool.table.entries_found(alloc)?);
+    Ok(count_entries(entries.as_slice()))
+}
+
+/// Does a group's writes behind its opening: what it has come to, and how many reads failed. Where there are none, no
+/// meter is asked for.
+pub fn begun<D: Disk, K: KeyOf>(
+    alloc: Global,
+    pool: &Pool,
+    disk: &mut D,
+    keyer: &K,
+    commands: &[Command],
+    moment: u64,
+) -> Result<(LiveGroup, u64), GroupFault>
+    requires sound { IsSound pool.now }
+    requires on_disk { pool.now.sectors ≤ D.sectors_of disk.old }
+    requires few { length commands.now ≤ 65_536 }
+    requires writes { AllByRecursion IsFirstWrite (map task_of commands.now) }
+    requires room { length commands.now ≤ count_by not pool.now.used }
+    ensures sectors { D.sectors_of disk.new ≡ D.sectors_of disk.old }
+    ensures stays { Stays (D.seen disk.old) (D.seen disk.new) }
+    ensures crash { SameOutcomes (D.may_leave disk.old) (D.may_leave disk.new) }
+    ensures any_moment { LeavesOnly D.clock D.left_since disk.old disk.new (D.may_leave disk.old) }
+    ensures run { IfOk result (λ done. HasRunFree (D.seen disk.old) (K.key_of keyer.now) pool.now moment (map task_of commands.now) done.1 done.0) }
+    ensures counts { IfOk result (λ done. min (D.read_faults disk.old + done.1) (2 ^ 64 - 1) ≤ D.read_faults disk.new) }
+    ensures reads { D.read_faults disk.old ≤ D.read_faults disk.new }
+    ensures writes { D.write_faults disk.old ≤ D.write_faults disk.new }
+    ensures causes { OnlyMeter (D.write_faults disk.old) (D.write_faults disk.new) result }
+{
+    crash_laws(disk);
+    let Ok(found) = pool.used.free_places(alloc, commands.len() as u64) else {
+        return Err(GroupFault::Memory);
+    };
+    let Some(places) = found else {
+        unreachable!()
+    };
+    let Ok(keys) = counted_keys(alloc, pool) else {
+        return Err(GroupFault::Memory);
+    };
+    if commands.is_empty() {
+        let Ok(live) = LiveGroup::opened(alloc, keys, 0) else {
+            return Err(GroupFault::Memory);
+        };
+        return Ok((live, 0));
+    }
+    metered(
+        alloc,
+        pool,
+        disk,
+        keyer,
+        commands,
+        moment,
+        places.as_slice(),
+        keys,
+    )
+}
