@@ -1,39 +1,25 @@
 -- A group of writes as the definitions run it, beside what the code has of it; and what the definitions' pointer of a write makes of both.
-use Rattle.std.proofs.Common.{◌≡◌, ◌≢◌, ℕ, ◌+◌, ◌<◌, ◌≤◌, ◌==◌, ◌&&◌, ◌||◌, Bool, true, false, cond, nat_lt, List, [], ◌∷◌, ◌++◌, length, filter, map, take, replicate, Some, None, Option, refl, sym, ap, subst, zero, suc, ◌∙◌, arith, inl, inr, length-append}
-use Rattle.std.specs.Prelude.{slice_index_or, ◌⊎◌}
-use Rattle.std.specs.List.{AllByRecursion, find, list_any}
-use Rattle.std.specs.Option.{option_map}
+use Rattle.std.proofs.Common.{◌≡◌, ℕ, ◌+◌, ◌&&◌, ◌||◌, Bool, true, false, cond, nat_lt, List, [], ◌∷◌, ◌++◌, length, filter, Some, Option, refl, sym, ap, suc, ◌∙◌, arith, inl, inr}
+use Rattle.std.specs.Prelude.{◌⊎◌}
+use Rattle.std.specs.List.{list_any}
 use Rattle.std.proofs.lemmas.Bool.Decides.{nat_tests}
-use Rattle.std.proofs.lemmas.List.{map-append}
 use Rattle.ddt_entry.specs.declared.key.Key.{Key}
 use Rattle.ddt_entry.specs.declared.entry.Home.{Home}
 use Rattle.ddt_entry.specs.declared.entry.Entry.{Entry}
 use Rattle.ddt_entry.specs.Keys.{key_eq}
-use Rattle.ddt_entry.proofs.KeyLaws.{key_eq-symm, key_eq-true}
-use Rattle.disk_model.specs.Images.{Image, sector_at}
-use Rattle.pool_model.specs.declared.commands.Mode.{Mode}
-use Rattle.pool_model.specs.declared.commands.Mode.TheVariants.{Off, On, Verify}
+use Rattle.disk_model.specs.Images.{Image}
 use Rattle.pool_model.specs.declared.closed.SlotChange.{SlotChange}
-use Rattle.pool_model.specs.Pool.{Pool, Pointer, Mark, plain, tracked, loose, is_tracked, since_of, is_at, run_length, tracks, tracked_at, keys_in, insert_pointer, with_pointer, comes_before}
-use Rattle.pool_model.specs.Table.{found, entry_at, counted}
-use Rattle.pool_model.specs.Plain.{Stored, Reply}
-use Rattle.pool_model.specs.Clash.{HasNoOther}
-use Rattle.pool_model.specs.Command.{Opening, Course, home_at, or_in, last_tracked, Spot, nowhere, at_home, at_fresh, pointer_at, placed, naming, replied}
+use Rattle.pool_model.specs.Pool.{Pointer, is_tracked, since_of, is_at, tracks, insert_pointer, comes_before}
+use Rattle.pool_model.specs.Table.{entry_at}
+use Rattle.pool_model.specs.Command.{Course, home_at, or_in}
 use Rattle.pool_model.specs.Group.{Standing, opening_of}
-use Rattle.table_state.specs.Pools.{Held, slots_after, set_slot, block_sector}
-use Rattle.txg_sync.specs.Syncing.{IsNamed}
-use Rattle.txg_sync.specs.Writing.{block_places}
-use Rattle.held_laws.specs.Slots.{slot_of, change_to}
-use Rattle.held_laws.proofs.SlotsOf.{slot_set, change_behind}
-use Rattle.held_laws.proofs.BlocksOf.{block_cut}
-use Rattle.table_laws.proofs.Keys.{keys_in-untracked, length-keys_in_new, keys_in-counted}
-use Rattle.course_laws.proofs.Pointers.{all_insert, all_from, filter_insert, none_insert, tracks-key}
-use Rattle.course_laws.proofs.Homes.{left_by, left_after, home_now, left_by-later, home_now-later, none_now}
-use Rattle.course_laws.proofs.Steps.{left_of, home_of, home_of-known}
-use Rattle.lane_run.specs.Groups.{StandsOver}
-use Rattle.lane_run.specs.Live.{Live, is_taken, is_change_at, or_below, home_here, sector_or, sector_here, first_mode, put_home, write_of, brought, shared, with_first, put_at, noted}
+use Rattle.table_state.specs.Pools.{Held}
+use Rattle.held_laws.specs.Slots.{change_to}
+use Rattle.course_laws.proofs.Pointers.{filter_insert}
+use Rattle.course_laws.proofs.Homes.{left_by, home_now, left_by-later, home_now-later}
+use Rattle.course_laws.proofs.Steps.{home_of, home_of-known}
+use Rattle.lane_run.specs.Live.{Live, is_change_at, or_below, home_here, put_home}
 use Rattle.lane_run.specs.Going.{IsCourse}
-use Rattle.lane_run.proofs.Places.{IsNew, new_elsewhere, named_more, find_beside, find_new, any_last, all_more}
 use Rattle.lane_run.proofs.PutHomes.{entry_at-put_home}
 
 -- the home that the course knows, by its pointers

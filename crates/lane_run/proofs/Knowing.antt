@@ -1,5 +1,5 @@
 -- What a group of writes knows of a key's home is what the definitions' course knows of it.
-use Rattle.std.proofs.Common.{◌≡◌, ◌≢◌, ℕ, ◌+◌, ◌<◌, ◌≤◌, ◌==◌, Bool, true, false, cond, not, nat_lt, List, [], ◌∷◌, ◌++◌, length, filter, take, Some, None, Option, refl, sym, ap, subst, ◌∙◌, arith}
+use Rattle.std.proofs.Common.{◌≡◌, ℕ, ◌==◌, Bool, true, false, cond, not, nat_lt, List, [], ◌∷◌, length, take, Some, None, Option, refl, sym, ap, ◌∙◌}
 use Rattle.std.specs.Prelude.{slice_index_or}
 use Rattle.std.specs.List.{AllByRecursion, find}
 use Rattle.std.specs.Option.{option_map}
@@ -13,7 +13,7 @@ use Rattle.disk_model.specs.Images.{Image, sector_at}
 use Rattle.pool_model.specs.declared.commands.Mode.{Mode}
 use Rattle.pool_model.specs.declared.commands.Mode.TheVariants.{Off, On, Verify}
 use Rattle.pool_model.specs.declared.answers.WriteAnswer.TheVariants as written
-use Rattle.pool_model.specs.Pool.{Pointer, tracks, tracked_at, plain, tracked, Mark}
+use Rattle.pool_model.specs.Pool.{Pointer, tracks, tracked_at, plain, tracked}
 use Rattle.pool_model.specs.Table.{found}
 use Rattle.pool_model.specs.Plain.{Stored}
 use Rattle.pool_model.specs.Clash.{HasNoOther}
@@ -23,7 +23,7 @@ use Rattle.table_state.specs.Pools.{Held}
 use Rattle.table_laws.proofs.Waiting.{waiting_has}
 use Rattle.course_laws.proofs.Pointers.{all_from, first_has, tracks-key}
 use Rattle.course_laws.proofs.Homes.{home_now}
-use Rattle.course_laws.proofs.Steps.{left_of, home_of, home_of-known}
+use Rattle.course_laws.proofs.Steps.{left_of}
 use Rattle.lane_run.specs.Groups.{StandsOver}
 use Rattle.lane_run.specs.Live.{Live, home_here, sector_or, sector_here, known_by, first_mode, opening_over}
 use Rattle.lane_run.proofs.Places.{find_none, not_used}
@@ -101,7 +101,7 @@ module _ (key_of : List ℕ → Key) (image : Image) (held : Held) (s : Standing
       by_found none (Some home) there gives =
           let zero : home.count ≡ 0 = waits_there key_of image held s moment others over live more course w (key_of content) home none there in
           let block : content ≡ take (key_of content).len (s.blocks home.place) =
-            waiting_has (λ entry. key_of content ≡ entry.key → content ≡ take entry.key.len (s.blocks entry.home.place)) s.table (key_of content) home (table_sorted image held s over) there zero has.waiting refl in
+          waiting_has (λ entry. key_of content ≡ entry.key → content ≡ take entry.key.len (s.blocks entry.home.place)) s.table (key_of content) home (table_sorted image held s over) there zero has.waiting refl in
           block ∙ same_block (record { home = home; block = take (key_of content).len (s.blocks home.place) }) known gives
 
       by_list : (ts : List Pointer) → tracked_at course.pool (key_of content) ≡ ts → content ≡ known.block

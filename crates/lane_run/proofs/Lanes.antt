@@ -1,6 +1,6 @@
 -- A group's writes as far as they have come, one after another.
-use Rattle.std.proofs.Common.{◌≡◌, ℕ, ◌+◌, ◌-◌, ◌/◌, ◌^◌, ◌<◌, ◌≤◌, Bool, true, false, cond, min, List, [], ◌∷◌, ◌++◌, length, map, take, replicate, get_or, Some, None, Option, refl, sym, ap, subst, zero, suc, ◌∙◌, arith, append_assoc, append-nil, length-append, length-take}
-use Rattle.std.specs.List.{AllByRecursion, count_by, flat_map, zip}
+use Rattle.std.proofs.Common.{◌≡◌, ℕ, ◌+◌, ◌-◌, ◌/◌, ◌^◌, ◌<◌, ◌≤◌, cond, min, List, [], ◌∷◌, ◌++◌, length, map, take, replicate, get_or, Some, None, Option, refl, sym, ap, subst, zero, suc, ◌∙◌, arith, append_assoc, append-nil, length-take}
+use Rattle.std.specs.List.{AllByRecursion, count_by}
 use Rattle.std.proofs.lemmas.List.{map-append, take_more, length-map}
 use Rattle.std.proofs.Math.Seq.{take-length}
 use Rattle.std.proofs.lemmas.List.Sums.{fold-append, sum_by-append}
@@ -146,9 +146,9 @@ module _ (told : Option Image) (key_of : List ℕ → Key) (keeps : (content : L
         let step = turn_on key_of image held s moment others over live command.slot content written.chosen place is_among long one length_is is_new more course w chosen_is in
         let turn : Turn = record { task = write_of command.slot content; reply = to_write written.chosen.answer } in
         let whole : first_course key_of s moment (block_places made.contents ++ more) (turns_from (map task_of (take (i + 1) commands)) made.replies) ≡ after (opening_of key_of s moment) course turn =
-          (λ j. first_course key_of s moment (places_on held place command.slot (key_of content) content live written.chosen more j) (turns_from (map task_of (take (i + 1) commands)) (replies_on held place command.slot (key_of content) content live written.chosen j)))
-          ∙ ap (first_course key_of s moment fresh) turns_are
-          ∙ course_of-push (opening_of key_of s moment) s.pool (fresh ∷ replicate 15 []) turns turn in
+        (λ j. first_course key_of s moment (places_on held place command.slot (key_of content) content live written.chosen more j) (turns_from (map task_of (take (i + 1) commands)) (replies_on held place command.slot (key_of content) content live written.chosen j)))
+        ∙ ap (first_course key_of s moment fresh) turns_are
+        ∙ course_of-push (opening_of key_of s moment) s.pool (fresh ∷ replicate 15 []) turns turn in
         subst (λ (c : Course). IsCourse key_of image held s moment others made more c) (sym whole) step
 
     lane_made : IsLane told key_of held moment commands places start (i + 1) before later made

@@ -1,11 +1,10 @@
 -- What a group's writes leave: a pool that is well formed, changes that the table matches it after, and blocks at their places.
-use Rattle.std.proofs.Common.{◌≡◌, ◌≢◌, ℕ, ◌+◌, ◌-◌, ◌<◌, ◌≤◌, ◌==◌, ◌&&◌, Bool, true, false, not, cond, List, [], ◌∷◌, ◌++◌, length, filter, map, take, replicate, Some, None, Option, refl, sym, ap, subst, ◌∙◌, arith, inl, inr, ⊎_elim}
-use Rattle.std.specs.Prelude.{slice_index_or, ◌⊎◌, if◌then◌else◌, nat_le, fold}
-use Rattle.std.specs.List.{AllByRecursion, find, filter_map, list_any, count_by, zip}
+use Rattle.std.proofs.Common.{◌≡◌, ◌≢◌, ℕ, ◌+◌, ◌<◌, ◌≤◌, ◌==◌, ◌&&◌, Bool, true, false, not, cond, List, [], ◌∷◌, length, map, take, replicate, Some, None, Option, refl, sym, ap, subst, ◌∙◌, arith, inl, ⊎_elim}
+use Rattle.std.specs.Prelude.{slice_index_or, if◌then◌else◌, nat_le, fold}
+use Rattle.std.specs.List.{AllByRecursion, find, filter_map, count_by}
 use Rattle.std.specs.Option.{option_map}
 use Rattle.std.proofs.lemmas.Bool.{and_parts, leb-true, ne_eqb, eqb-true}
 use Rattle.std.proofs.lemmas.Bool.Decides.{nat_tests}
-use Rattle.std.proofs.lemmas.List.{map-append, length-map}
 use Rattle.ddt_entry.specs.declared.key.Key.{Key}
 use Rattle.ddt_entry.specs.declared.entry.Home.{Home}
 use Rattle.ddt_entry.specs.declared.entry.Entry.{Entry}
@@ -14,48 +13,44 @@ use Rattle.ddt_entry.specs.declared.entry.Change.TheVariants as changes
 use Rattle.ddt_entry.specs.Changes.{key_in}
 use Rattle.ddt_entry.specs.Records.{IsKeyLength}
 use Rattle.disk_model.specs.Images.{Image, sector_at}
-use Rattle.grant_book.specs.Sectors.{AreFirstFree, marked}
-use Rattle.pool_model.specs.declared.commands.Mode.{Mode}
-use Rattle.pool_model.specs.declared.commands.Mode.TheVariants.{Off, On, Verify}
-use Rattle.pool_model.specs.Pool.{Pool, Pointer, with_key, Pairwise, IsApart, IsWellFormed, run_length, tracked_at, tracks}
-use Rattle.pool_model.specs.Table.{TableState, Matches, found, found_over, change_at, counted, home_of_pointers, sync_table, waiting_in, flush_limit, IsApartFrom}
+use Rattle.grant_book.specs.Sectors.{AreFirstFree}
+use Rattle.pool_model.specs.Pool.{Pool, Pointer, with_key, Pairwise, IsApart, IsWellFormed, run_length}
+use Rattle.pool_model.specs.Table.{TableState, Matches, found, sync_table, waiting_in, flush_limit, IsApartFrom}
 use Rattle.pool_model.specs.Plain.{Act, write, read, free, Task, Reply, Stored}
-use Rattle.pool_model.specs.Clash.{HasNoOther, contents_in, part_trusted}
+use Rattle.pool_model.specs.Clash.{contents_in}
 use Rattle.pool_model.specs.Command.{Opening, Turn, Course, known_home}
-use Rattle.pool_model.specs.Group.{Standing, opening_of, course_of, IsFree, AreFresh, change_of, changes_of, change_from, settled, home_eq, emptied, block_or, blocks_after}
+use Rattle.pool_model.specs.Group.{Standing, opening_of, IsFree, AreFresh, change_of, changes_of, change_from, settled, home_eq, block_or, blocks_after}
 use Rattle.pool_model.specs.Space.{need}
 use Rattle.uber_ring.specs.declared.seal.Seal.{Seal}
-use Rattle.table_state.specs.SealForms.{is_formed, has_size, has_group, has_flags, has_modes, has_checkpoint, fewest_sectors, most_sectors}
+use Rattle.table_state.specs.SealForms.{is_formed, has_size, has_flags, has_modes, has_checkpoint, fewest_sectors, most_sectors}
 use Rattle.table_state.specs.Tables.{IsTable, AreChangesRising}
 use Rattle.table_state.specs.Pools.{Held, slots_after, pool_after, with_blocks, block_sector}
 use Rattle.table_state.specs.declared.slot_record.SlotRecord.{SlotRecord}
 use Rattle.table_state.proofs.UsedLaws.{one_sector}
-use Rattle.txg_sync.specs.Planning.{Group}
-use Rattle.txg_sync.specs.Syncing.{CanSync, IsNamed, group_pool, table_after, records_after}
-use Rattle.txg_sync.specs.Placing.{pages_of}
+use Rattle.txg_sync.specs.Syncing.{CanSync, IsNamed, group_pool, table_after}
 use Rattle.txg_sync.specs.Writing.{block_places}
 use Rattle.txg_sync.proofs.RoomLaws.{need_enough}
 use Rattle.held_laws.specs.Slots.{slot_of, refilled, refilled_pool}
 use Rattle.held_laws.proofs.BlocksOf.{beside_blocks, blocks_placed}
 use Rattle.held_laws.proofs.Refilled.{well_formed_refilled, matches_refilled, pool_refilled}
 use Rattle.held_laws.proofs.SoundOf.{pointer_lengths}
-use Rattle.held_laws.proofs.UnusedOf.{found_fresh, found_within}
-use Rattle.table_laws.specs.Homes.{HomesMatch, GivesOwnChanges, found_with}
+use Rattle.held_laws.proofs.UnusedOf.{found_fresh}
+use Rattle.table_laws.specs.Homes.{GivesOwnChanges, found_with}
 use Rattle.table_laws.proofs.Lookups.{found_has}
 use Rattle.table_laws.proofs.Named.{named_rising, change_at-named}
 use Rattle.table_laws.proofs.Matching.{matches_synced}
 use Rattle.table_laws.proofs.Synced.{found-synced, there_stays}
 use Rattle.table_laws.proofs.Waiting.{waiting_has, waiting_synced}
-use Rattle.course_laws.specs.ByKey.{IsUnnamedByKey, AreFreshByKey, ChangesByKey, MatchesByKey, home_after, is_touched, IsWrite}
-use Rattle.course_laws.proofs.Pointers.{all_from, all_from_both}
+use Rattle.course_laws.specs.ByKey.{IsUnnamedByKey, AreFreshByKey, ChangesByKey, MatchesByKey, home_after, IsWrite}
+use Rattle.course_laws.proofs.Pointers.{all_from}
 use Rattle.course_laws.proofs.Counts.{course_counts}
 use Rattle.course_laws.proofs.Aside.{before_opened}
 use Rattle.course_laws.proofs.Going.{IsGoing, going_all, going_matches}
 use Rattle.course_laws.proofs.Writing.{kept_formed, written_all, written_waits}
-use Rattle.lane_run.specs.Groups.{StandsOver, IsFirstWrite, WritesBlock, HasNoClash, KeepsWaiting}
+use Rattle.lane_run.specs.Groups.{StandsOver, IsFirstWrite, WritesBlock}
 use Rattle.lane_run.specs.Going.{IsCourse, IsPlaced, Stands, Trusted, turns_from, first_course}
-use Rattle.lane_run.specs.Live.{Live, sector_or, sector_here, first_mode, change_here, changes_here, group_here}
-use Rattle.lane_run.proofs.Openings.{table_sorted, pool_sound, home_within, waiting_run, waiting_used, waiting_is_used, homes_match, formed, matches_by_key}
+use Rattle.lane_run.specs.Live.{Live, sector_or, sector_here, first_mode, changes_here, group_here}
+use Rattle.lane_run.proofs.Openings.{table_sorted, home_within, waiting_run, waiting_used, waiting_is_used, homes_match, formed, matches_by_key}
 
 -- a change of a key is of that key
 own_from : (key : Key) (before now : Option Home) (change : Change) → change_from key before now ≡ Some change → key_in change ≡ key
@@ -290,6 +285,8 @@ module _ (key_of : List ℕ → Key) (image : Image) (held : Held) (s : Standing
       → (slice_index_or held.used home.place true ≡ true) × (32 ≤ home.place) × (take key.len (blocks_after s home.place) ≡ take key.len (sector_at image home.place))
   keeps_waiting key home is zero =
       let before : found_with (changes_of opening course) s.table key ≡ Some home = there_stays (found_with (changes_of opening course) s.table key) (found (sync_table (changes_of opening course) s.table) key) home (found-synced (changes_of opening course) s.table key sorted rising) is in
-      let was : found s.table key ≡ Some home = waited_before key home before zero in
-      (waiting_used image held s over key home was zero, (home_within image held s over key home was).start,
-      ap (λ (o : Option Pointer). take key.len (block_or (s.blocks home.place) o)) (no_pointer_there key home was zero) ∙ over.waiting key home was zero)
+      let was : found s.table key ≡ Some home = waited_before key home before zero in (
+        waiting_used image held s over key home was zero,
+        (home_within image held s over key home was).start,
+        ap (λ (o : Option Pointer). take key.len (block_or (s.blocks home.place) o)) (no_pointer_there key home was zero) ∙ over.waiting key home was zero,
+      )

@@ -1,5 +1,5 @@
 -- Before the first write: the definitions' course stands where the pool in memory does.
-use Rattle.std.proofs.Common.{◌≡◌, ℕ, ◌+◌, ◌<◌, ◌≤◌, ◌||◌, Bool, true, false, cond, List, [], ◌∷◌, ◌++◌, length, filter, map, take, replicate, Some, None, Option, refl, sym, ap, subst, ◌∙◌, arith, inl, inr, ⊎_elim}
+use Rattle.std.proofs.Common.{◌≡◌, ℕ, ◌||◌, Bool, true, false, List, [], ◌∷◌, length, filter, map, replicate, refl, sym, ap, subst, ◌∙◌, arith, inl, ⊎_elim}
 use Rattle.std.specs.Prelude.{slice_index_or}
 use Rattle.std.specs.List.{AllByRecursion, list_any}
 use Rattle.std.proofs.Math.Bool.{or-false}
@@ -7,28 +7,26 @@ use Rattle.std.proofs.lemmas.List.{length-map}
 use Rattle.ddt_entry.specs.declared.key.Key.{Key}
 use Rattle.ddt_entry.specs.declared.entry.Entry.{Entry}
 use Rattle.ddt_entry.specs.Records.{IsKeyLength}
-use Rattle.disk_model.specs.Images.{Image, sector_at}
-use Rattle.pool_model.specs.Pool.{Pool, Pointer, LiesWithin, IsApart, run_length, is_at, tracks, tracked_at, keys_in}
+use Rattle.disk_model.specs.Images.{Image}
+use Rattle.pool_model.specs.Pool.{Pool, Pointer, LiesWithin, IsApart, run_length, is_at, tracks, keys_in}
 use Rattle.pool_model.specs.Table.{TableState, found}
-use Rattle.pool_model.specs.Command.{Course}
 use Rattle.pool_model.specs.Group.{Standing, opening_of, opened}
 use Rattle.table_state.specs.Flat.{counted_homes, pointer_of, table_in}
 use Rattle.table_state.specs.Pools.{Held, is_slot_at}
 use Rattle.table_state.specs.declared.slot_record.SlotRecord.{SlotRecord}
 use Rattle.table_state.proofs.UsedLaws.{one_sector}
-use Rattle.txg_sync.specs.Syncing.{IsNamed}
 use Rattle.held_laws.specs.Slots.{slot_of}
 use Rattle.held_laws.proofs.Members.{In, each_in, at_in}
 use Rattle.held_laws.proofs.SlotsOf.{held_slots}
 use Rattle.held_laws.proofs.SoundOf.{pointer_lengths}
 use Rattle.held_laws.proofs.UnusedOf.{unused_free}
 use Rattle.table_laws.proofs.Keys.{keys_are_counted_homes}
-use Rattle.course_laws.proofs.Pointers.{all_from, all_from_both}
+use Rattle.course_laws.proofs.Pointers.{all_from_both}
 use Rattle.course_laws.proofs.Homes.{matched_home}
 use Rattle.course_laws.proofs.Steps.{home_of-known}
 use Rattle.lane_run.specs.Groups.{StandsOver}
 use Rattle.lane_run.specs.Going.{IsCourse, IsPlaced, Stands}
-use Rattle.lane_run.specs.Live.{Live, sector_here}
+use Rattle.lane_run.specs.Live.{Live}
 use Rattle.lane_run.proofs.Places.{used_either}
 use Rattle.lane_run.proofs.Openings.{table_sorted, homes_match, formed, used_length}
 

@@ -1,5 +1,5 @@
 -- What holds of a pool in memory when a group opens on it: the homes that its table finds, and that those that wait have a place that is used.
-use Rattle.std.proofs.Common.{◌≡◌, ℕ, ◌+◌, ◌<◌, ◌≤◌, ◌^◌, ◌==◌, Bool, true, false, cond, List, [], ◌∷◌, length, Some, None, Option, refl, sym, ap, subst, ◌∙◌, arith, inl, inr, ⊎_elim}
+use Rattle.std.proofs.Common.{◌≡◌, ℕ, ◌<◌, ◌≤◌, Bool, true, false, List, [], ◌∷◌, length, Some, None, Option, refl, sym, subst, ◌∙◌, arith, ⊎_elim}
 use Rattle.std.specs.Prelude.{slice_index_or}
 use Rattle.std.specs.List.{AllByRecursion, find}
 use Rattle.std.specs.Option.{option_map}
@@ -10,21 +10,20 @@ use Rattle.ddt_entry.specs.declared.entry.Change.{Change}
 use Rattle.ddt_entry.specs.declared.entry.Change.TheVariants as changes
 use Rattle.ddt_entry.specs.Keys.{key_eq}
 use Rattle.ddt_entry.specs.Changes.{key_in}
-use Rattle.disk_model.specs.Images.{Image, sector_at}
-use Rattle.pool_model.specs.Pool.{Pool, Pointer, IsApart, run_length, tracked_at, IsWellFormed}
-use Rattle.pool_model.specs.Table.{TableState, found, found_over, home_in, change_at, entry_at, counted, home_of_pointers, waiting_in}
-use Rattle.pool_model.specs.Group.{Standing, IsFree}
+use Rattle.disk_model.specs.Images.{Image}
+use Rattle.pool_model.specs.Pool.{IsApart, run_length, IsWellFormed}
+use Rattle.pool_model.specs.Table.{TableState, found, found_over, home_in, change_at, entry_at}
+use Rattle.pool_model.specs.Group.{Standing}
 use Rattle.table_state.specs.Flat.{IsWithin, IsChangeWithin}
 use Rattle.table_state.specs.Tables.{IsTable, IsTableWithin}
-use Rattle.table_state.specs.Pools.{Held, IsHeld}
+use Rattle.table_state.specs.Pools.{Held}
 use Rattle.table_state.specs.Sound.{IsSound, HasKeyLengths}
-use Rattle.table_state.specs.Flat.{table_in}
 use Rattle.table_state.proofs.TableBack.{is_table_in}
-use Rattle.table_state.proofs.UsedLaws.{waiting_runs, length-used_sectors}
+use Rattle.table_state.proofs.UsedLaws.{waiting_runs}
 use Rattle.held_laws.proofs.SoundOf.{held_sound}
 use Rattle.held_laws.proofs.UnusedOf.{unused_free}
 use Rattle.table_laws.specs.Homes.{HomesMatch}
-use Rattle.table_laws.proofs.Waiting.{waiting_has, waiting_found}
+use Rattle.table_laws.proofs.Waiting.{waiting_has}
 use Rattle.table_laws.proofs.Matching.{matches_read}
 use Rattle.course_laws.specs.ByKey.{MatchesByKey}
 use Rattle.lane_run.specs.Groups.{StandsOver}

@@ -1,9 +1,8 @@
 -- Lists of blocks and of notes: what is found in them when one more comes.
-use Rattle.std.proofs.Common.{◌≡◌, ◌≢◌, ℕ, ◌+◌, ◌<◌, ◌==◌, ◌||◌, Bool, true, false, cond, List, [], ◌∷◌, ◌++◌, length, map, Some, None, Option, refl, sym, ap, zero, suc, ◌∙◌, arith, inl, inr, ⊎_elim}
-use Rattle.std.specs.Prelude.{slice_index_or, ◌⊎◌}
+use Rattle.std.proofs.Common.{◌≡◌, ℕ, ◌<◌, ◌==◌, ◌||◌, Bool, true, false, cond, List, [], ◌∷◌, ◌++◌, length, Some, None, refl, sym, ap, zero, suc, ◌∙◌, arith, inl, inr, ⊎_elim}
+use Rattle.std.specs.Prelude.{slice_index_or}
 use Rattle.std.specs.List.{AllByRecursion, find, list_any}
 use Rattle.std.proofs.lemmas.Bool.{ne_eqb}
-use Rattle.std.proofs.lemmas.Bool.Decides.{nat_tests}
 use Rattle.pool_model.specs.Plain.{Stored}
 use Rattle.txg_sync.specs.Syncing.{IsNamed}
 
@@ -58,9 +57,9 @@ pub record IsNew (used : List Bool) (contents : List Stored) (place : ℕ) : Typ
 -- is no place that has a name
 pub new_elsewhere : (used : List Bool) (contents : List Stored) (place other : ℕ) → IsNew used contents place → IsNamed used contents other → (place == other) ≡ false
 new_elsewhere used contents place other is named = ne_eqb place other (λ back. let same : other ≡ place = sym back in elim named [
-    | inl taken ↦ not_used used place is.unused (ap (λ x. slice_index_or used x false) (sym same) ∙ taken)
-    | inr some ↦ clash (sym is.no_block ∙ ap (λ x. list_any (λ stored. stored.place == x) contents) (sym same) ∙ some)
-  ])
+  | inl taken ↦ not_used used place is.unused (ap (λ x. slice_index_or used x false) (sym same) ∙ taken)
+  | inr some ↦ clash (sym is.no_block ∙ ap (λ x. list_any (λ stored. stored.place == x) contents) (sym same) ∙ some)
+])
   where
     clash : false ≡ true → ⊥
     clash same = cc same

@@ -1,5 +1,5 @@
 -- What holds of a group so far whatever the disk tells: its lists are as long as its writes allow, and its numbers are in their ranges.
-use Rattle.std.proofs.Common.{◌≡◌, ℕ, ◌+◌, ◌-◌, ◌^◌, ◌<◌, ◌≤◌, ◌==◌, ◌||◌, Bool, true, false, cond, List, [], ◌∷◌, ◌++◌, length, map, take, get_or, Some, None, Option, refl, sym, ap, subst, zero, suc, ◌∙◌, arith, length-append}
+use Rattle.std.proofs.Common.{◌≡◌, ℕ, ◌+◌, ◌^◌, ◌<◌, ◌≤◌, ◌==◌, ◌||◌, Bool, true, false, cond, List, [], ◌∷◌, ◌++◌, length, take, get_or, Some, None, Option, refl, sym, ap, subst, zero, suc, ◌∙◌, arith, length-append}
 use Rattle.std.specs.Prelude.{slice_index_or}
 use Rattle.std.specs.List.{AllByRecursion, find, list_any, IsDistinct}
 use Rattle.std.specs.Option.{option_map}
@@ -22,7 +22,7 @@ use Rattle.held_laws.proofs.UnusedOf.{found_unused}
 use Rattle.course_laws.proofs.Pointers.{all_from}
 use Rattle.lane_run.specs.Live.{Live, or_below, home_here, put_home, put_at, with_first, brought, shared, after_row, IsHomeOf, IsReady}
 use Rattle.lane_run.proofs.Places.{IsNew, all_more}
-use Rattle.lane_run.proofs.Openings.{IsHomeWithin, found_within}
+use Rattle.lane_run.proofs.Openings.{found_within}
 use Rattle.lane_run.proofs.Stored.{found_has}
 
 -- a home's place lies on the disk, and after so many writes it counts so few
@@ -142,10 +142,10 @@ module _ (held : Held) (places : List ℕ) (start i : ℕ) (live : Live) (ranged
     omega (arith, ranged.slots_few, longer live.slots (brought slot content key place number mark)),
     omega (arith, ranged.blocks_few, longer live.contents (record { place = place; bytes = content })),
     map-append (λ (x : Stored). x.place) live.contents (record { place = place; bytes = content } ∷ [])
-    ∙ ap (λ l. l ++ place ∷ []) ranged.places_are
-    ∙ ap (λ x. take (length live.contents) places ++ x ∷ []) is
-    ∙ sym (take_more places (length live.contents) place below)
-    ∙ ap (λ n. take n places) (sym (longer live.contents (record { place = place; bytes = content }))),
+        ∙ ap (λ l. l ++ place ∷ []) ranged.places_are
+        ∙ ap (λ x. take (length live.contents) places ++ x ∷ []) is
+        ∙ sym (take_more places (length live.contents) place below)
+        ∙ ap (λ n. take n places) (sym (longer live.contents (record { place = place; bytes = content }))),
     omega (arith, ranged.keys_few, one_or_none (is_tracked mark)),
     by_mark mark,
     all_more (λ (x : Stored). length x.bytes ≤ 4096) live.contents (record { place = place; bytes = content }) ranged.blocks fits,

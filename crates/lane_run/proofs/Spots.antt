@@ -1,6 +1,6 @@
 -- What the pointer of a write, and its answer, make of the definitions' course and of the group so far.
-use Rattle.std.proofs.Common.{◌≡◌, ◌≢◌, ℕ, ◌+◌, ◌<◌, ◌≤◌, ◌==◌, ◌&&◌, Bool, true, false, cond, nat_lt, List, [], ◌∷◌, ◌++◌, length, filter, map, take, replicate, Some, None, Option, refl, sym, ap, subst, zero, suc, ◌∙◌, arith, inl, inr, length-append}
-use Rattle.std.specs.Prelude.{slice_index_or, ◌⊎◌}
+use Rattle.std.proofs.Common.{◌≡◌, ℕ, ◌+◌, ◌<◌, ◌==◌, Bool, true, false, cond, nat_lt, List, [], ◌∷◌, ◌++◌, length, filter, map, take, replicate, Some, None, Option, refl, sym, ap, subst, ◌∙◌, arith, inl, inr}
+use Rattle.std.specs.Prelude.{slice_index_or}
 use Rattle.std.specs.List.{AllByRecursion, find, list_any}
 use Rattle.std.proofs.lemmas.Bool.Decides.{nat_tests}
 use Rattle.std.proofs.lemmas.List.{map-append}
@@ -10,11 +10,11 @@ use Rattle.ddt_entry.specs.declared.entry.Entry.{Entry}
 use Rattle.ddt_entry.specs.Keys.{key_eq}
 use Rattle.ddt_entry.proofs.KeyLaws.{key_eq-same, key_eq-true}
 use Rattle.disk_model.specs.Images.{Image, sector_at}
-use Rattle.pool_model.specs.Pool.{Pool, Pointer, Mark, plain, tracked, loose, is_tracked, since_of, is_at, run_length, tracks, tracked_at, keys_in, insert_pointer, with_pointer}
+use Rattle.pool_model.specs.Pool.{Pointer, Mark, plain, tracked, loose, is_tracked, since_of, is_at, run_length, tracks, tracked_at, keys_in, insert_pointer, with_pointer}
 use Rattle.pool_model.specs.Table.{found, counted, home_of_pointers}
 use Rattle.pool_model.specs.Plain.{Stored, Reply}
 use Rattle.pool_model.specs.Clash.{HasNoOther, NoOther}
-use Rattle.pool_model.specs.Command.{Opening, Course, home_at, or_in, last_tracked, Spot, nowhere, at_home, at_fresh, pointer_at, placed, naming, replied, next_fresh, take_fresh}
+use Rattle.pool_model.specs.Command.{Course, home_at, or_in, last_tracked, at_home, at_fresh, pointer_at, placed, naming, replied, next_fresh, take_fresh}
 use Rattle.pool_model.specs.Group.{Standing, opening_of}
 use Rattle.table_state.specs.Pools.{Held, is_slot_at, slots_after, set_slot, block_sector}
 use Rattle.txg_sync.specs.Syncing.{IsNamed}
@@ -28,7 +28,7 @@ use Rattle.course_laws.proofs.Homes.{left_by, home_now, none_now, uncounted_zero
 use Rattle.course_laws.proofs.Rows.{FitsHome, FitsFresh, outside, first}
 use Rattle.course_laws.proofs.Steps.{left_of, home_of, home_of-known}
 use Rattle.lane_run.specs.Groups.{StandsOver}
-use Rattle.lane_run.specs.Live.{Live, or_below, home_here, sector_or, sector_here, first_mode, put_home, write_of, shared, with_first, put_at, noted}
+use Rattle.lane_run.specs.Live.{Live, home_here, sector_or, sector_here, first_mode, put_home, write_of, shared, with_first, put_at, noted}
 use Rattle.lane_run.proofs.Places.{IsNew, new_elsewhere, named_more, find_beside, find_new, any_last, all_more}
 use Rattle.lane_run.proofs.Openings.{waiting_is_used, homes_match}
 use Rattle.lane_run.specs.Going.{Trusted, Stands, IsPlaced, NoOtherThere, IsCourse}

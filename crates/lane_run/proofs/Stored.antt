@@ -1,9 +1,9 @@
 -- The blocks that a group stored, by their places.
-use Rattle.std.proofs.Common.{◌≡◌, ℕ, ◌+◌, ◌<◌, ◌==◌, Bool, true, false, cond, List, [], ◌∷◌, ◌++◌, length, map, Some, None, Option, refl, sym, ap, ◌∙◌, arith}
+use Rattle.std.proofs.Common.{◌≡◌, ℕ, ◌==◌, Bool, true, false, cond, List, [], ◌∷◌, map, Some, refl}
 use Rattle.std.specs.List.{AllByRecursion, find}
 use Rattle.std.specs.Option.{option_map}
 use Rattle.pool_model.specs.declared.closed.StoredBlock.{StoredBlock}
-use Rattle.pool_model.specs.Plain.{Stored, stored_of}
+use Rattle.pool_model.specs.Plain.{stored_of}
 
 -- the block at a place is the one that code finds
 pub find-stored : (cs : List StoredBlock) (place : ℕ) → find (λ s. s.place == place) (map stored_of cs) ≡ option_map stored_of (find (λ c. c.place == place) cs)

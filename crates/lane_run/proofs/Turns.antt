@@ -1,24 +1,20 @@
 -- One write more: the row that the code chose is the definitions', and the group so far goes on with their course.
-use Rattle.std.proofs.Common.{◌≡◌, ◌≢◌, ℕ, ◌+◌, ◌<◌, ◌≤◌, ◌==◌, Bool, true, false, cond, not, nat_lt, List, [], ◌∷◌, ◌++◌, length, filter, map, take, Some, None, Option, refl, sym, ap, subst, ◌∙◌, arith, append-nil, append_assoc}
-use Rattle.std.specs.Prelude.{slice_index_or, ◌||◌}
+use Rattle.std.proofs.Common.{◌≡◌, ℕ, ◌+◌, ◌<◌, Bool, true, false, cond, List, [], ◌∷◌, ◌++◌, length, take, Some, None, Option, refl, sym, ap, subst, ◌∙◌}
+use Rattle.std.specs.Prelude.{◌||◌}
 use Rattle.std.specs.List.{AllByRecursion, find, list_any}
 use Rattle.std.specs.Option.{option_map}
-use Rattle.std.proofs.lemmas.List.{map-append}
 use Rattle.ddt_entry.specs.declared.key.Key.{Key}
 use Rattle.ddt_entry.specs.declared.entry.Home.{Home}
-use Rattle.disk_model.specs.Images.{Image, sector_at}
+use Rattle.disk_model.specs.Images.{Image}
 use Rattle.pool_model.specs.declared.commands.Mode.{Mode}
 use Rattle.pool_model.specs.declared.commands.Mode.TheVariants.{Off, On, Verify}
-use Rattle.pool_model.specs.declared.answers.WriteAnswer.{WriteAnswer}
 use Rattle.pool_model.specs.declared.answers.WriteAnswer.TheVariants as written
-use Rattle.pool_model.specs.Pool.{Pointer, Mark, plain, tracked, is_at, held as held_at, run_length, mode_of, tracks, tracked_at, keys_in}
-use Rattle.pool_model.specs.Table.{found}
-use Rattle.pool_model.specs.Plain.{Stored, to_write}
+use Rattle.pool_model.specs.Pool.{Pointer, Mark, plain, is_at, run_length, mode_of, keys_in}
+use Rattle.pool_model.specs.Plain.{to_write}
 use Rattle.pool_model.specs.Clash.{HasNoOther}
-use Rattle.pool_model.specs.Command.{Opening, Turn, Course, Known, Row, Spot, nowhere, at_home, at_fresh, row, known_home, slot_row, table_row, verify_row, mode_row, write_row, is_fault, allows, uses_table, placed, naming, replied, after}
+use Rattle.pool_model.specs.Command.{Turn, Course, Known, Row, Spot, nowhere, at_home, at_fresh, row, known_home, slot_row, verify_row, mode_row, write_row, is_fault, allows, uses_table, placed, naming, replied, after}
 use Rattle.pool_model.specs.Group.{Standing, opening_of}
 use Rattle.table_state.specs.Pools.{Held}
-use Rattle.txg_sync.specs.Writing.{block_places}
 use Rattle.course_laws.proofs.Rows.{SpotFits, FitsHome, FitsFresh, row_fits}
 use Rattle.course_laws.proofs.Steps.{home_of, home_of-known}
 use Rattle.lane_run.specs.Groups.{StandsOver}
@@ -119,9 +115,9 @@ module _ (key_of : List ℕ → Key) (image : Image) (held : Held) (s : Standing
             no_home same = cc same
         by_fault false quiet mode =
             let row_of : chosen ≡ verify_row key_of (known_home (opening_of key_of s moment) course (key_of content)) content (allows (length (keys_in course.pool)) course.pool.quota) moment =
-              row_at Verify mode ∙ ap (λ b. mode_row Verify (opening_of key_of s moment) (known_home (opening_of key_of s moment) course (key_of content)) content b (allows (length (keys_in course.pool)) course.pool.quota)) quiet in
+            row_at Verify mode ∙ ap (λ b. mode_row Verify (opening_of key_of s moment) (known_home (opening_of key_of s moment) course (key_of content)) content b (allows (length (keys_in course.pool)) course.pool.quota)) quiet in
             let row_by : chosen ≡ verify_row key_of (Some known) content (allows (length (keys_in course.pool)) course.pool.quota) moment =
-              row_of ∙ ap (λ (k : Option Known). verify_row key_of k content (allows (length (keys_in course.pool)) course.pool.quota) moment) (known_at home home_is trusted) in
+            row_of ∙ ap (λ (k : Option Known). verify_row key_of k content (allows (length (keys_in course.pool)) course.pool.quota) moment) (known_at home home_is trusted) in
             subst (SharesBytes content known) (sym (ap (λ (r : Row). r.spot) row_by) ∙ spot_is) (verify_shares key_of content known (allows (length (keys_in course.pool)) course.pool.quota) moment)
 
         by_mode : (m : Mode) → first_mode held.modes ≡ m → content ≡ take (key_of content).len (sector_here image live.contents home.place)

@@ -1,7 +1,7 @@
 -- A whole group: its note is that of the definitions' run, and what it leaves can be synced.
-use Rattle.std.proofs.Common.{◌≡◌, ℕ, ◌+◌, ◌*◌, ◌-◌, ◌^◌, ◌<◌, ◌≤◌, ◌==◌, Bool, true, false, cond, nat_lt, min, List, [], ◌∷◌, ◌++◌, length, filter, map, replicate, Some, None, Option, refl, sym, ap, subst, zero, suc, ◌∙◌, arith, add-one, append-nil}
+use Rattle.std.proofs.Common.{◌≡◌, ℕ, ◌+◌, ◌<◌, ◌≤◌, ◌==◌, Bool, true, false, cond, nat_lt, List, [], ◌∷◌, length, filter, map, replicate, Some, None, Option, refl, sym, ap, subst, zero, suc, ◌∙◌, arith, add-one, append-nil}
 use Rattle.std.specs.Prelude.{if◌then◌else◌, not, Result, Ok, Err, IsErrOf}
-use Rattle.std.specs.List.{AllByRecursion, count_by, range_with_len, zip}
+use Rattle.std.specs.List.{AllByRecursion, count_by, range_with_len}
 use Rattle.std.proofs.lemmas.List.Sums.{sum_by-cons}
 use Rattle.std.proofs.lemmas.Bool.{lt-ltb, ne_eqb}
 use Rattle.std.proofs.lemmas.Bool.Decides.{nat_tests}
@@ -14,16 +14,15 @@ use Rattle.grant_book.specs.Sectors.{AreFirstFree}
 use Rattle.pool_model.specs.declared.commands.Mode.{Mode}
 use Rattle.pool_model.specs.declared.commands.Mode.TheVariants.{Off, On, Verify}
 use Rattle.pool_model.specs.declared.notes.Outcome.TheVariants.{NoSpace}
-use Rattle.pool_model.specs.Pool.{Pool, mode_of}
-use Rattle.pool_model.specs.Plain.{Act, write, read, free, Task, Reply, LaneTold, Told, lanes}
+use Rattle.pool_model.specs.Pool.{mode_of}
+use Rattle.pool_model.specs.Plain.{Act, write, read, free, Task, Reply, Told, lanes}
 use Rattle.pool_model.specs.Space.{need, space_lacking, changes_in, writes_in, is_write, is_free_act}
 use Rattle.pool_model.specs.Table.{flush_limit}
-use Rattle.pool_model.specs.Clash.{HasNoOther, contents_in, is_on, part_trusted}
+use Rattle.pool_model.specs.Clash.{HasNoOther, contents_in, is_on}
 use Rattle.pool_model.specs.Command.{Turn, Course, is_fault}
-use Rattle.pool_model.specs.Group.{Standing, opening_of, course_of, tasks_of, lanes_of, turns_of, lane_by_lane, fresh_of, HasEachLane, Agrees, AreFresh, IsFree, after_lanes}
+use Rattle.pool_model.specs.Group.{Standing, opening_of, course_of, tasks_of, lanes_of, lane_by_lane, fresh_of, HasEachLane, Agrees, AreFresh, IsFree, after_lanes}
 use Rattle.pool_model.specs.Run.{noted_course, AnswersAsRun, sealed_standing}
 use Rattle.table_state.specs.Pools.{Held}
-use Rattle.txg_sync.specs.Syncing.{CanSync, group_pool, table_after}
 use Rattle.txg_sync.specs.Writing.{block_places}
 use Rattle.lane_run.specs.Groups.{StandsOver, IsFirstWrite, WritesBlock, HasNoClash, KeepsWaiting, IsRunFrom}
 use Rattle.lane_run.specs.Going.{IsCourse, Trusted, turns_from, first_course, HasRun, HasRunOver, Opens, lanes_here}
@@ -153,7 +152,7 @@ module _ (key_of : List ℕ → Key) (image : Image) (held : Held) (s : Standing
       let whole : tasks_of 0 tasks ≡ tasks = tasks_of-first tasks firsts in
       let longer : length tasks ≡ suc (length ts) = ap length some in
       let order : lane_by_lane tasks note.lanes ≡ turns_from tasks live.replies =
-        ap (lane_by_lane tasks) lanes_are ∙ append-nil (turns_from (tasks_of 0 tasks) live.replies) ∙ ap (λ xs. turns_from xs live.replies) whole in
+      ap (lane_by_lane tasks) lanes_are ∙ append-nil (turns_from (tasks_of 0 tasks) live.replies) ∙ ap (λ xs. turns_from xs live.replies) whole in
       let counted : count_by is_fault live.replies ≤ faults = omega (arith, has.counts, faults_few live.replies, has.each, few) in
       record {
         order = order;

@@ -1,5 +1,5 @@
 -- What running a group comes to: over which standing its pool in memory stands, and what the closed group makes of it.
-use Rattle.std.specs.Prelude.{◌≡◌, ℕ, ◌<◌, ◌≤◌, true, List, [], length, take, slice_index_or, Option, Some, None}
+use Rattle.std.specs.Prelude.{◌≡◌, ℕ, ◌<◌, ◌≤◌, true, List, length, take, slice_index_or, Some}
 use Rattle.std.specs.List.{AllByRecursion}
 use Rattle.disk_model.specs.Images.{Image, sector_at}
 use Rattle.ddt_entry.specs.declared.key.Key.{Key}

@@ -73,9 +73,7 @@ pub fn begun<D: Disk, K: KeyOf>(
     let Ok(found) = pool.used.free_places(alloc, commands.len() as u64) else {
         return Err(GroupFault::Memory);
     };
-    let Some(places) = found else {
-        unreachable!()
-    };
+    let Some(places) = found else { unreachable!() };
     let Ok(keys) = counted_keys(alloc, pool) else {
         return Err(GroupFault::Memory);
     };

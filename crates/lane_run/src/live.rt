@@ -85,9 +85,7 @@ fn place_of(homes: &[Entry], key: &Key) -> Option<usize>
 fn is_held(slots: &[SlotRecord], slot: u32) -> bool
     ensures { result ≡ list_any (is_slot_at 0 slot) slots.now }
 {
-    slots
-        .iter()
-        .any(|held| held.lane == 0 && held.slot == slot)
+    slots.iter().any(|held| held.lane == 0 && held.slot == slot)
 }
 
 /// Whether the group brought a pointer to a slot of lane 0.

@@ -1,24 +1,21 @@
-use Rattle.std.proofs.Common.{◌≡◌, ◌∙◌, ℕ, Bool, List, length, map, Option, Some, sym, ap, subst, arith}
+use Rattle.std.proofs.Common.{◌≡◌, ◌∙◌, Bool, List, length, map, sym, ap, subst}
 use Rattle.std.proofs.lemmas.List.{length-map}
 use Rattle.std.proofs.lemmas.Bool.{eqb-true}
-use Rattle.grant_book.specs.Sectors.{AreFirstFree, FindsFree}
+use Rattle.grant_book.specs.Sectors.{AreFirstFree}
 use Rattle.pool_model.specs.Plain.{task_of}
-use Rattle.lane_run.specs.Live.{Live}
 use Rattle.lane_run.specs.Going.{HasRun}
 use Rattle.table_state.specs.Pools.{Held}
 use Rattle.lane_run.proofs.Lanes.{run_over, run_none}
-use Rattle.lane_run.proofs.Opened.{live_opened}
 use Rattle.lane_run.proofs.beginning.begun.Goals as goal
 
 pub returns-then-is_empty-clause-run : goal.returns-then-is_empty-clause-run
 returns-then-is_empty-clause-run g c =
     let used_is : c.pool.inside.used ≡ c.args.pool.now.used = ap (λ (h : Held). h.used) c.pool.view_is in
     let found : AreFirstFree c.pool.inside.used (length c.args.commands.now) c.in-Some.places.items = rw c.in-Some.is at c.in-Ok.ensures in
-    let none : length c.args.commands.now ≡ 0 = eqb-true (length c.args.commands.now) 0 (sym c.is_empty.ensures ∙ c.if-is_empty.true) in
-    (
+    let none : length c.args.commands.now ≡ 0 = eqb-true (length c.args.commands.now) 0 (sym c.is_empty.ensures ∙ c.if-is_empty.true) in (
       c.in-Some.places.items,
       subst (λ (used : List Bool). AreFirstFree used (length (map task_of c.args.commands.now)) c.in-Some.places.items) used_is (subst (λ n. AreFirstFree c.pool.inside.used n c.in-Some.places.items) (sym (length-map c.args.commands.now task_of)) found),
       run_over (g.D.Disk.seen c.args.disk.now) (g.K.KeyOf.key_of c.args.keyer.now) c.args.pool.now c.args.moment (map task_of c.args.commands.now) c.in-Some.places.items 0 c.in-Ok-opened.live
-      (subst (HasRun (g.D.Disk.seen c.args.disk.now) (g.K.KeyOf.key_of c.args.keyer.now) c.args.pool.now c.args.moment (map task_of c.args.commands.now) c.in-Some.places.items 0 0) (sym c.in-Ok-opened.ensures)
-      (run_none (g.D.Disk.seen c.args.disk.now) (g.K.KeyOf.key_of c.args.keyer.now) c.args.pool.now c.args.moment c.args.commands.now c.in-Some.places.items c.in-Ok-counted_keys.keys c.in-Ok-counted_keys.ensures.keys none)),
+          (subst (HasRun (g.D.Disk.seen c.args.disk.now) (g.K.KeyOf.key_of c.args.keyer.now) c.args.pool.now c.args.moment (map task_of c.args.commands.now) c.in-Some.places.items 0 0) (sym c.in-Ok-opened.ensures)
+          (run_none (g.D.Disk.seen c.args.disk.now) (g.K.KeyOf.key_of c.args.keyer.now) c.args.pool.now c.args.moment c.args.commands.now c.in-Some.places.items c.in-Ok-counted_keys.keys c.in-Ok-counted_keys.ensures.keys none)),
     )

@@ -1,6 +1,6 @@
-use Rattle.std.proofs.Common.{◌≡◌, ◌==◌, ◌≤◌, List, Option, Some, None, map, length, find, sym, ap, ◌∙◌}
+use Rattle.std.proofs.Common.{◌≡◌, ◌==◌, ◌≤◌, Some, None, map, length, find, sym, ap, ◌∙◌}
 use Rattle.std.specs.Option.{option_map}
-use Rattle.disk_model.specs.Images.{Image, sector_at}
+use Rattle.disk_model.specs.Images.{sector_at}
 use Rattle.pool_model.specs.declared.closed.StoredBlock.{StoredBlock}
 use Rattle.pool_model.specs.Plain.{Stored, stored_of}
 use Rattle.lane_run.specs.Live.{sector_or}

@@ -1,4 +1,4 @@
-use Rattle.std.proofs.Common.{◌≡◌, Option, sym, ◌∙◌}
+use Rattle.std.proofs.Common.{sym, ◌∙◌}
 use Rattle.home_rules.specs.Rows.{row_of}
 use Rattle.lane_run.specs.Live.{home_here}
 use Rattle.lane_run.proofs.Choices.{table_home, table_counts}

@@ -1,9 +1,7 @@
-use Rattle.std.proofs.Common.{◌≡◌, ◌∙◌, ℕ, Bool, List, Option, Some, None, cond, length, take, map, refl, sym, ap, subst, arith}
+use Rattle.std.proofs.Common.{◌≡◌, ◌∙◌, Option, Some, None, length, take, map, refl, sym, ap, arith}
 use Rattle.ddt_entry.specs.declared.key.Key.{Key}
-use Rattle.ddt_entry.specs.declared.entry.Home.{Home}
-use Rattle.disk_model.specs.Images.{Image}
 use Rattle.pool_model.specs.Plain.{stored_of}
-use Rattle.pool_model.specs.Command.{Known, Row}
+use Rattle.pool_model.specs.Command.{Known}
 use Rattle.home_rules.specs.Rows.{row_of}
 use Rattle.lane_run.specs.Live.{sector_here, known_by}
 use Rattle.lane_run.proofs.Choices.{verified_home, verified_counts, verified_is}

@@ -1,13 +1,10 @@
-use Rattle.std.proofs.Common.{◌≡◌, ◌∙◌, ℕ, List, Bool, Option, Some, None, length, map, rules, sym, ap, subst, arith}
+use Rattle.std.proofs.Common.{◌≡◌, ◌∙◌, List, Some, length, map, rules, sym, ap, subst}
 use Rattle.std.specs.Prelude.{not}
-use Rattle.std.specs.List.{AllByRecursion, count_by}
+use Rattle.std.specs.List.{count_by}
 use Rattle.std.proofs.lemmas.List.{length-map}
-use Rattle.disk_model.specs.Images.{Image}
-use Rattle.grant_book.specs.Sectors.{AreFirstFree}
 use Rattle.pool_model.specs.declared.commands.Command.{Command}
 use Rattle.pool_model.specs.Plain.{Task, Told, task_of, told_of}
 use Rattle.pool_model.specs.Table.{flush_limit}
-use Rattle.txg_sync.specs.Planning.{Group, group_in}
 use Rattle.lane_run.specs.Groups.{IsRunFrom}
 use Rattle.lane_run.specs.Going.{HasRunFree}
 use Rattle.lane_run.proofs.Whole.{run_from, room_same, unopened, over_told, told_still}
@@ -34,7 +31,7 @@ returns-clause-run g c image s told over =
     let note_is = ap (λ (t : Told). t.lanes) (rw c.as_slice-commands.ensures at c.in-Ok.ensures.noted) in
     let few = rw (sym (length-map c.args.group.now.commands.items task_of)) at c.requires.few in
     let room =
-      sym (room_same (count_by not c.args.pool.now.used) (length c.args.pool.now.pages) (flush_limit c.args.pool.now.table) c.len-writes.result tasks c.requires.writes (c.len-writes.ensures ∙ sym (length-map c.args.group.now.commands.items task_of))) ∙ c.in_ok-opens.ensures.opens in
+    sym (room_same (count_by not c.args.pool.now.used) (length c.args.pool.now.pages) (flush_limit c.args.pool.now.table) c.len-writes.result tasks c.requires.writes (c.len-writes.ensures ∙ sym (length-map c.args.group.now.commands.items task_of))) ∙ c.in_ok-opens.ensures.opens in
     subst (IsRunFrom key_of image c.args.pool.now s c.args.group.now.moment tasks (told_of c.ended.new.note)) (sym c.in-Ok.ensures.group)
     (run_from key_of image c.args.pool.now s over c.args.group.now.moment tasks c.requires.writes has.0 has.1 c.in_ok-live.live (Some image) c.in_ok-live.faults
     (over_told (g.D.Disk.seen c.opens.new.disk) key_of c.args.pool.now c.args.group.now.moment tasks has.0 c.in_ok-live.faults c.in_ok-live.live image told_then has.2) (λ i. Some image) few (told_of c.ended.new.note) note_is room)
