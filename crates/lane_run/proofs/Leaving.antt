@@ -19,7 +19,7 @@ use Rattle.pool_model.specs.Table.{TableState, Matches, found, sync_table, waiti
 use Rattle.pool_model.specs.Plain.{Act, write, read, free, Task, Reply, Stored}
 use Rattle.pool_model.specs.Clash.{contents_in}
 use Rattle.pool_model.specs.Command.{Opening, Turn, Course, known_home}
-use Rattle.pool_model.specs.Group.{Standing, opening_of, IsFree, AreFresh, change_of, changes_of, change_from, settled, home_eq, block_or, blocks_after}
+use Rattle.pool_model.specs.Group.{Standing, opening_of, IsFree, AreFresh, change_of, changes_of, change_from, settled, home_eq, block_or, blocks_after, after_lanes}
 use Rattle.pool_model.specs.Space.{need}
 use Rattle.uber_ring.specs.declared.seal.Seal.{Seal}
 use Rattle.table_state.specs.SealForms.{is_formed, has_size, has_flags, has_modes, has_checkpoint, fewest_sectors, most_sectors}
@@ -40,7 +40,11 @@ use Rattle.table_laws.proofs.Lookups.{found_has}
 use Rattle.table_laws.proofs.Named.{named_rising, change_at-named}
 use Rattle.table_laws.proofs.Matching.{matches_synced}
 use Rattle.table_laws.proofs.Synced.{found-synced, there_stays}
-use Rattle.table_laws.proofs.Waiting.{waiting_has, waiting_synced}
+use Rattle.table_laws.proofs.Waiting.{waiting_has, waiting_found, waiting_synced}
+use Rattle.table_state.proofs.Syncing.{sync_keeps}
+use Rattle.run_laws.specs.Items.{IsIn, WaitingStays}
+use Rattle.run_laws.proofs.Clashes.{all_in}
+use Rattle.run_laws.proofs.Kept.{waiting_stays}
 use Rattle.course_laws.specs.ByKey.{IsUnnamedByKey, AreFreshByKey, ChangesByKey, MatchesByKey, home_after, IsWrite}
 use Rattle.course_laws.proofs.Pointers.{all_from}
 use Rattle.course_laws.proofs.Counts.{course_counts}
@@ -290,3 +294,13 @@ module _ (key_of : List ℕ → Key) (image : Image) (held : Held) (s : Standing
         (home_within image held s over key home was).start,
         ap (λ (o : Option Pointer). take key.len (block_or (s.blocks home.place) o)) (no_pointer_there key home was zero) ∙ over.waiting key home was zero,
       )
+
+  -- no home begins to wait, and those that wait keep their bytes
+  pub stays_waiting : WaitingStays s (after_lanes opening s course)
+  stays_waiting =
+      waiting_stays s (after_lanes opening s course) (waiting_found (sync_table (changes_of opening course) s.table) (sync_keeps (changes_of opening course) s.table sorted))
+      (λ key home is zero.
+        let before : found_with (changes_of opening course) s.table key ≡ Some home = there_stays (found_with (changes_of opening course) s.table key) (found (sync_table (changes_of opening course) s.table) key) home (found-synced (changes_of opening course) s.table key sorted rising) is in
+        let was : found s.table key ≡ Some home = waited_before key home before zero in
+        (was, ap (λ (o : Option Pointer). block_or (s.blocks home.place) o) (no_pointer_there key home was zero)))
+      (λ key home is zero. waiting_has (λ entry. IsIn entry (waiting_in s.table)) s.table key home sorted is zero (all_in (waiting_in s.table)))

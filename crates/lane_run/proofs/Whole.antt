@@ -27,7 +27,8 @@ use Rattle.txg_sync.specs.Writing.{block_places}
 use Rattle.lane_run.specs.Groups.{StandsOver, IsFirstWrite, WritesBlock, HasNoClash, KeepsWaiting, IsRunFrom}
 use Rattle.lane_run.specs.Going.{IsCourse, Trusted, turns_from, first_course, HasRun, HasRunOver, Opens, lanes_here}
 use Rattle.lane_run.specs.Live.{Live, first_mode, group_here}
-use Rattle.lane_run.proofs.Leaving.{fresh_given, table_is, pool_stands, can_sync, keeps_waiting}
+use Rattle.lane_run.proofs.Leaving.{fresh_given, table_is, pool_stands, can_sync, keeps_waiting, stays_waiting}
+use Rattle.run_laws.specs.Items.{WaitingStays}
 
 -- ---- Lane 0 alone
 
@@ -194,6 +195,7 @@ module _ (key_of : List ℕ → Key) (image : Image) (held : Held) (s : Standing
         (trusted_by (first_mode held.modes) key_of s moment tasks (ap first_mode (sym over.is_held.modes_are)) firsts clash)
         ∙ sym (ap (λ (x : Standing). x.pool) as_sealed);
     waiting = subst (KeepsWaiting image held) (sym as_sealed) (keeps_waiting key_of image held s over moment tasks firsts (length tasks) places are_free live has.places_are w);
+    waiting_stays = subst (WaitingStays s) (sym as_sealed) (stays_waiting key_of image held s over moment tasks firsts (length tasks) places are_free live has.places_are w);
   }
 
 -- what a group of writes needs, by its commands or by their number
