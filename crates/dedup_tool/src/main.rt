@@ -1,21 +1,28 @@
 //! The program: `dedup_tool IMAGE WORDS`.
 //!
-//! It reads the command line, opens the image, hands the words with standard input and output to a
-//! session, and ends with the session's status, told on standard error in one line. The image is judged
-//! before the words. What a session does is said by `session::run`; here are only the streams of the
-//! real machine, of which nothing is known but what std's readers and writers say.
+//! It reads the command line, opens the image, hands the words with the disk and the standard streams to
+//! a session, and ends with the session's status, told on standard error in one line. The image is judged
+//! before the words. The first word says which session it is: one that runs the command file on standard
+//! input (`session::run`), or one that runs none (`session::inspect`). What a session does is said there;
+//! here are only the streams of the real machine, of which nothing is known but what std's readers and
+//! writers say.
 #![tactic(auto)]
 
-ghost use Rattle.std.specs.Prelude.{◌≡◌, ◌≢◌, ◌↔◌, map, string_bytes};
-ghost use Rattle.session.specs.Running.{session_words};
+ghost use Rattle.std.specs.Prelude.{◌≡◌, ◌↔◌, map, string_bytes, None};
+ghost use Rattle.session.specs.Faults.{code_of};
+ghost use Rattle.session.specs.Words.{running_words, looking_words};
+ghost use Rattle.session.specs.declared.status.Status.{Status};
 
+mod ending;
 mod image;
 
 use ddt_entry::Sha256Key;
+use disk_model::MemDisk;
+use ending::{by_memory, runs_file};
 use image::sectors_in_memory;
 use io_model::{StdSink, StdSource};
 use pool_model::{GroupNotes, Session};
-use session::{Status, fault_text, run};
+use session::{Status, fault_text, inspect, run};
 use std::alloc::Global;
 use std::env;
 use std::io::{ErrorKind, writer};
@@ -33,25 +40,57 @@ fn told(rt: &impl Eprint, text: &str, status: u8) -> u8
     status
 }
 
-/// Runs a session on these words, and answers its status, which is that of `usage` exactly where the
-/// words are not a session's. A fault is told on standard error if there is memory for its text.
-fn run_words<R: Input + Print + Eprint>(rt: &R, alloc: Global, words: &[String]) -> u8
-    ensures usage { (result ≡ 1) ↔ (map string_bytes words.now ≢ session_words) }
+/// Says on standard error how a session ended, if it didn't end well and there is memory for the text, and
+/// answers the number that the program ends with.
+fn ended(rt: &impl Eprint, alloc: Global, status: &Status) -> u8
+    ensures { result ≡ code_of status.now }
 {
-    let mut input = StdSource::new(rt.reader());
+    if *status == Status::Done {
+        return status.code();
+    }
+    match fault_text(alloc, status) {
+        Ok(text) => told(rt, text.as_str(), status.code()),
+        Err(_) => status.code(),
+    }
+}
+
+/// Does the session of these words over the disk, with the standard streams.
+fn serve<R: Input + Print>(rt: &R, alloc: Global, words: &[String], disk: &mut MemDisk) -> Status
+    ensures usage { (result ≡ Status.Usage) ↔ ((running_words (map string_bytes words.now) ≡ None) × (looking_words (map string_bytes words.now) ≡ None)) }
+{
     let mut out = StdSink::new(writer(rt));
+    if !runs_file(words) {
+        return inspect(alloc, words, disk, &mut out, &Sha256Key);
+    }
+    let mut input = StdSource::new(rt.reader());
     let mut session = Session {
         groups: GroupNotes::new(alloc),
         sealed: 0,
     };
-    let status = run(alloc, words, &mut input, &mut out, &Sha256Key, &mut session);
-    if status == Status::Done {
-        return status.code();
-    }
-    match fault_text(alloc, &status) {
-        Ok(text) => told(rt, text.as_str(), status.code()),
-        Err(_) => status.code(),
-    }
+    run(
+        alloc,
+        words,
+        disk,
+        &mut input,
+        &mut out,
+        &Sha256Key,
+        &mut session,
+    )
+}
+
+/// Does the session of these words over a disk in memory, says how it ended, and answers the status that
+/// the program ends with. It is that of `usage` exactly where the words are none of a session's.
+fn run_words<R: Input + Print + Eprint>(
+    rt: &R,
+    alloc: Global,
+    words: &[String],
+    mut disk: MemDisk,
+) -> u8
+    ensures usage { (result ≡ 1) ↔ ((running_words (map string_bytes words.now) ≡ None) × (looking_words (map string_bytes words.now) ≡ None)) }
+{
+    let status = serve(rt, alloc, words, &mut disk);
+    let status = by_memory(disk.starved(), status);
+    ended(rt, alloc, &status)
 }
 
 /// Runs the program on its command line, and answers the status that it ends with.
@@ -69,10 +108,13 @@ fn run_command_line<R: Env + Input + Print + Eprint + AllocGlobal>(rt: &R) -> u8
     let Some(image) = words.get(1) else {
         return told(rt, "cannot open image", NO_IMAGE);
     };
-    if sectors_in_memory(image.as_str()).is_none() {
+    let Some(sectors) = sectors_in_memory(image.as_str()) else {
         return told(rt, "cannot open image", NO_IMAGE);
-    }
-    run_words(rt, rt.alloc(), &words[2..])
+    };
+    let Ok(disk) = MemDisk::new(rt.alloc(), sectors) else {
+        return told(rt, "out of memory", Status::OutOfMemory.code());
+    };
+    run_words(rt, rt.alloc(), &words[2..], disk)
 }
 
 fn main(rt: HostRuntime) -> ExitCode {
