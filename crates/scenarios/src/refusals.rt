@@ -1,10 +1,12 @@
 use crate::files::{ONE_WRITE, file_of_lengths};
-use crate::running::{Ended, MAKE, run_over, sink_of, source_of};
+use crate::running::{Ended, MAKE, look_over, run_over, sink_of, small_disk, source_of};
 use ddt_entry::Sha256Key;
-use io_model::{Failed, Sink, Source};
+use disk_model::MemDisk;
+use io_model::{Failed, MemSource, Sink, Source};
 use pool_model::BadKind;
 use session::Status;
-use std::alloc::{AllocError, Global};
+use std::alloc::Global;
+use std::process::Abort;
 use std::test::Fail;
 
 /// What a session answers to a file that it can't read.
@@ -13,93 +15,127 @@ const BAD_FILE: Status = Status::BadFile {
     kind: BadKind::Form,
 };
 
-// A session over a file, with a sink whose first call fails.
-fn run_unwritten(alloc: Global, text: &str) -> Result<Ended, AllocError> {
-    let input = source_of(alloc, text, 4096, &[])?;
+/// Sees that a session ended so before it called the disk or the sink, of which the first call fails.
+fn assert_refused(rt: &impl Abort, ended: Ended, disk: &MemDisk, status: Status) {
+    let mut ended = ended;
+    assert_eq!(rt; ended.status, status);
+    assert!(rt; ended.did_nothing());
+    assert_eq!(rt; disk.calls_made(), 0);
+    assert_eq!(rt; ended.out.write(b"x"), Err(Failed));
+}
+
+/// Sees that a file is refused before anything is done.
+fn assert_bad(rt: &impl Abort, alloc: Global, text: &str) -> Result<(), Fail> {
+    let mut disk = small_disk(alloc)?;
+    let mut input = source_of(alloc, text, 4096, &[])?;
     let out = sink_of(alloc, &[1])?;
-    run_over(alloc, &Sha256Key, &[MAKE], input, out)
+    let ended = run_over(alloc, &Sha256Key, &[MAKE], &mut disk, &mut input, out)?;
+    assert_refused(rt, ended, &disk, BAD_FILE);
+    Ok(())
 }
 
 #[test]
 fn a_malformed_file_does_nothing_and_writes_nothing(rt: HostRuntime) -> Result<(), Fail> {
-    let rows = [
-        "",
+    for text in [
+        "\n",
         "group 1\n0 write 1 61\nend\nstat",
         "group 1\r\n0 write 1 61\r\nend\r\nstat\r\n",
         "group 1\n0 write 1 6A\nend\nstat\n",
         "group 1\n0 write 1 616\nend\nstat\n",
         "group 1\n0 write 65536 61\nend\nstat\n",
         "group 1\n0 write 01 61\nend\nstat\n",
-        "group 1\nend\nstat\n",
+        "group 1099511627776\nend\n",
         "group 1\n0 write 1 61\nstat\n",
-        "group 1\n0 write 1 61\nend\nstat\nx",
-        "group 1\n0 write 1 61\nend\nstat\n\n",
-        "group 1\n0 write 1 61\nend\nstat\nstat\n",
-    ];
-    for text in rows {
-        let mut ended = run_unwritten(rt.alloc(), text)?;
-        assert_eq!(rt; ended.status, BAD_FILE, "{text:?}");
-        assert!(rt; ended.did_nothing(), "{text:?}");
-        // The sink's first call is still to come.
-        assert_eq!(rt; ended.out.write(b"x"), Err(Failed), "{text:?}");
+        "group 1\n0 write 1 61\n",
+        "stat\nimport\nstat\nx",
+        "stat\n\n",
+        "create\n",
+    ] {
+        assert_bad(&rt, rt.alloc(), text)?;
     }
     Ok(())
+}
+
+/// Sees that a file of such lengths is refused, which has so many bytes.
+fn assert_too_long(
+    rt: &impl Abort,
+    alloc: Global,
+    moment: u64,
+    lengths: &[u32],
+    size: usize,
+) -> Result<(), Fail> {
+    let text = file_of_lengths(alloc, moment, lengths)?;
+    assert_eq!(rt; text.len(), size);
+    assert_bad(rt, alloc, text.as_str())
 }
 
 #[test]
 fn a_file_past_a_limit_does_nothing_and_writes_nothing(rt: HostRuntime) -> Result<(), Fail> {
     let alloc = rt.alloc();
+    // A block of one byte more than a block may have.
+    assert_too_long(&rt, alloc, 1, &[4_097], 8_222)?;
+    // One write more than a group may have.
     let many = vec![in alloc; 1u32; 1_001]?;
+    assert_too_long(&rt, alloc, 1, many.as_slice(), 13_030)?;
+    // One byte more than a file may have, with lines that may stand in one.
     let mut long = vec![in alloc; 4_096u32; 127]?;
     long.push(3_377)?;
     long.push(1)?;
-    let rows = [
-        // A block of one byte more than a block may have.
-        (1, [4_097].as_slice(), 8_222),
-        // One write more than a group may have.
-        (1, many.as_slice(), 13_030),
-        // One byte more than a file may have, with lines that may stand in one.
-        (10, long.as_slice(), 1_048_577),
+    assert_too_long(&rt, alloc, 10, long.as_slice(), 1_048_577)
+}
+
+/// Sees that a source was never called, of which the first call fails.
+fn assert_unread(rt: &impl Abort, input: &mut MemSource) {
+    let mut buffer = [0u8; 5];
+    assert_eq!(rt; input.read(&mut buffer), Err(Failed));
+    assert_eq!(rt; input.read(&mut buffer), Ok(5));
+    assert_eq!(rt; buffer.as_slice(), b"group".as_slice());
+}
+
+/// Sees that `run` is not for these words.
+fn assert_not_run(rt: &impl Abort, alloc: Global, words: &[&str]) -> Result<(), Fail> {
+    let mut disk = small_disk(alloc)?;
+    let mut input = source_of(alloc, ONE_WRITE.file, 4096, &[1])?;
+    let out = sink_of(alloc, &[1])?;
+    let ended = run_over(alloc, &Sha256Key, words, &mut disk, &mut input, out)?;
+    assert_refused(rt, ended, &disk, Status::Usage);
+    assert_unread(rt, &mut input);
+    Ok(())
+}
+
+/// Sees that `inspect` is not for these words.
+fn assert_not_looked(rt: &impl Abort, alloc: Global, words: &[&str]) -> Result<(), Fail> {
+    let mut disk = small_disk(alloc)?;
+    let ended = look_over(alloc, words, &mut disk, sink_of(alloc, &[1])?)?;
+    assert_refused(rt, ended, &disk, Status::Usage);
+    Ok(())
+}
+
+#[test]
+fn other_words_do_nothing_and_write_nothing(rt: HostRuntime) -> Result<(), Fail> {
+    let rows: [&[&str]; 10] = [
+        &[],
+        &[""],
+        &["make", "make"],
+        &["run", "make"],
+        &["stat", "stat"],
+        &["Make"],
+        &["Stat"],
+        &["make "],
+        &["make", ""],
+        &["create", ""],
     ];
-    for (moment, lengths, size) in rows {
-        let text = file_of_lengths(alloc, moment, lengths)?;
-        assert_eq!(rt; text.len(), size);
-        let mut ended = run_unwritten(alloc, text.as_str())?;
-        assert_eq!(rt; ended.status, BAD_FILE, "a file of {size} bytes");
-        assert!(rt; ended.did_nothing(), "a file of {size} bytes");
-        assert_eq!(rt;
-            ended.out.write(b"x"),
-            Err(Failed),
-            "a file of {size} bytes"
-        );
+    for words in rows {
+        assert_not_run(&rt, rt.alloc(), words)?;
+        assert_not_looked(&rt, rt.alloc(), words)?;
     }
     Ok(())
 }
 
 #[test]
-fn other_words_read_nothing_and_write_nothing(rt: HostRuntime) -> Result<(), Fail> {
-    let alloc = rt.alloc();
-    let rows: [&[&str]; 7] = [
-        &[],
-        &[""],
-        &["make", "make"],
-        &["run"],
-        &["Make"],
-        &["make "],
-        &["make", ""],
-    ];
-    for words in rows {
-        let input = source_of(alloc, ONE_WRITE.file, 4096, &[1])?;
-        let out = sink_of(alloc, &[1])?;
-        let mut ended = run_over(alloc, &Sha256Key, words, input, out)?;
-        assert_eq!(rt; ended.status, Status::Usage, "{words:?}");
-        assert!(rt; ended.did_nothing(), "{words:?}");
-        // The first call of either stream is still to come, and the source has all its bytes.
-        let mut buffer = [0u8; 5];
-        assert_eq!(rt; ended.input.read(&mut buffer), Err(Failed), "{words:?}");
-        assert_eq!(rt; ended.input.read(&mut buffer), Ok(5), "{words:?}");
-        assert_eq!(rt; buffer.as_slice(), b"group".as_slice(), "{words:?}");
-        assert_eq!(rt; ended.out.write(b"x"), Err(Failed), "{words:?}");
-    }
-    Ok(())
+fn each_word_has_its_one_call(rt: HostRuntime) -> Result<(), Fail> {
+    assert_not_run(&rt, rt.alloc(), &["create"])?;
+    assert_not_run(&rt, rt.alloc(), &["stat"])?;
+    assert_not_looked(&rt, rt.alloc(), &["make"])?;
+    assert_not_looked(&rt, rt.alloc(), &["run"])
 }

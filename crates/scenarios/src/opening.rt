@@ -1,0 +1,110 @@
+use crate::files::{EMPTY_STAT, ONE_STAT, ONE_WRITE, SHARED_BLOCK, SHARED_STAT};
+use crate::running::{
+    MAKE, RUN, assert_ended, assert_opens, assert_runs, assert_tells, run_file, small_disk,
+};
+use ddt_entry::WeakKey;
+use disk_model::{Disk, MemDisk};
+use session::Status;
+use std::alloc::Global;
+use std::process::Abort;
+use std::test::Fail;
+
+#[test]
+fn an_empty_pool_is_made_once(rt: HostRuntime) -> Result<(), Fail> {
+    let alloc = rt.alloc();
+    let mut disk = small_disk(alloc)?;
+    assert_opens(&rt, alloc, MAKE, &mut disk, Status::Done)?;
+    assert_tells(&rt, alloc, "stat", &mut disk, Status::Done, EMPTY_STAT)?;
+    assert_tells(&rt, alloc, "create", &mut disk, Status::PoolExists(1), "")?;
+    assert_opens(&rt, alloc, MAKE, &mut disk, Status::PoolExists(1))?;
+    assert_opens(&rt, alloc, RUN, &mut disk, Status::Done)?;
+    assert_tells(&rt, alloc, "stat", &mut disk, Status::Done, EMPTY_STAT)
+}
+
+#[test]
+fn a_created_pool_is_run_over(rt: HostRuntime) -> Result<(), Fail> {
+    let alloc = rt.alloc();
+    let mut disk = small_disk(alloc)?;
+    assert_tells(&rt, alloc, "create", &mut disk, Status::Done, "create 1\n")?;
+    assert_tells(&rt, alloc, "stat", &mut disk, Status::Done, EMPTY_STAT)?;
+    assert_runs(&rt, alloc, RUN, &mut disk, ONE_WRITE.file, ONE_WRITE.report)?;
+    assert_tells(&rt, alloc, "stat", &mut disk, Status::Done, ONE_STAT)?;
+    assert_tells(&rt, alloc, "create", &mut disk, Status::PoolExists(2), "")?;
+    assert_opens(&rt, alloc, MAKE, &mut disk, Status::PoolExists(2))
+}
+
+#[test]
+fn a_blank_disk_has_no_pool(rt: HostRuntime) -> Result<(), Fail> {
+    let mut disk = small_disk(rt.alloc())?;
+    assert_opens(&rt, rt.alloc(), RUN, &mut disk, Status::NoPool)?;
+    assert_tells(&rt, rt.alloc(), "stat", &mut disk, Status::NoPool, "")
+}
+
+#[test]
+fn a_disk_with_a_sector_too_few_takes_no_pool(rt: HostRuntime) -> Result<(), Fail> {
+    let alloc = rt.alloc();
+    let mut disk = MemDisk::new(alloc, 2_047)?;
+    assert_opens(&rt, alloc, MAKE, &mut disk, Status::BadSize(2_047))?;
+    assert_tells(&rt, alloc, "create", &mut disk, Status::BadSize(2_047), "")?;
+    assert_eq!(rt; disk.calls_made(), 0);
+    assert_opens(&rt, alloc, RUN, &mut disk, Status::NoPool)
+}
+
+#[test]
+fn a_pool_of_other_keys_is_damaged(rt: HostRuntime) -> Result<(), Fail> {
+    // The body of the seal of group 1, which names the key function, is sector 3.
+    let alloc = rt.alloc();
+    let mut disk = small_disk(alloc)?;
+    let made = run_file(alloc, &WeakKey, MAKE, &mut disk, "")?;
+    assert_ended(&rt, &made, Status::Done, "")?;
+    assert_opens(&rt, alloc, RUN, &mut disk, Status::Damaged(3))?;
+    assert_tells(&rt, alloc, "stat", &mut disk, Status::Damaged(3), "")?;
+    assert_tells(&rt, alloc, "create", &mut disk, Status::PoolExists(1), "")
+}
+
+/// Changes this byte of a sector.
+fn change_byte(rt: &impl Abort, disk: &mut MemDisk, sector: u64, at: usize) -> Result<(), Fail> {
+    assert!(rt; sector < disk.sectors());
+    assert!(rt; at < 4096);
+    let mut bytes = [0; 4096];
+    let mut meter = disk.meter()?;
+    let answer = disk.read(&mut meter, sector, &mut bytes);
+    disk.retire(meter);
+    answer?;
+    bytes[at] ^= 1;
+    disk.write(sector, &bytes)?;
+    Ok(())
+}
+
+/// Sees what is told of a pool of group 2, of which this byte of this sector was changed.
+fn assert_changed(
+    rt: &impl Abort,
+    alloc: Global,
+    sector: u64,
+    at: usize,
+    stat: &str,
+) -> Result<(), Fail> {
+    let mut disk = small_disk(alloc)?;
+    let (file, report) = (SHARED_BLOCK.file, SHARED_BLOCK.report);
+    assert_runs(rt, alloc, MAKE, &mut disk, file, report)?;
+    change_byte(rt, &mut disk, sector, at)?;
+    assert_tells(rt, alloc, "stat", &mut disk, Status::Done, stat)
+}
+
+#[test]
+fn behind_a_changed_seal_the_one_before_counts(rt: HostRuntime) -> Result<(), Fail> {
+    // The gate of group 2 is sector 4, of which the first 8 bytes count; the body of its seal is sector 5. Group 1 has
+    // sectors 2 and 3.
+    for (sector, at, stat) in [
+        (5u64, 0usize, EMPTY_STAT),
+        (5, 4_095, EMPTY_STAT),
+        (4, 0, EMPTY_STAT),
+        (4, 7, EMPTY_STAT),
+        (4, 8, SHARED_STAT),
+        (3, 0, SHARED_STAT),
+        (2, 0, SHARED_STAT),
+    ] {
+        assert_changed(&rt, rt.alloc(), sector, at, stat)?;
+    }
+    Ok(())
+}
