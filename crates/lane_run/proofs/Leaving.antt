@@ -300,7 +300,7 @@ module _ (key_of : List ℕ → Key) (image : Image) (held : Held) (s : Standing
   stays_waiting =
       waiting_stays s (after_lanes opening s course) (waiting_found (sync_table (changes_of opening course) s.table) (sync_keeps (changes_of opening course) s.table sorted))
       (λ key home is zero.
-        let before : found_with (changes_of opening course) s.table key ≡ Some home = there_stays (found_with (changes_of opening course) s.table key) (found (sync_table (changes_of opening course) s.table) key) home (found-synced (changes_of opening course) s.table key sorted rising) is in
-        let was : found s.table key ≡ Some home = waited_before key home before zero in
-        (was, ap (λ (o : Option Pointer). block_or (s.blocks home.place) o) (no_pointer_there key home was zero)))
+      let before : found_with (changes_of opening course) s.table key ≡ Some home = there_stays (found_with (changes_of opening course) s.table key) (found (sync_table (changes_of opening course) s.table) key) home (found-synced (changes_of opening course) s.table key sorted rising) is in
+      let was : found s.table key ≡ Some home = waited_before key home before zero in
+      (was, ap (λ (o : Option Pointer). block_or (s.blocks home.place) o) (no_pointer_there key home was zero)))
       (λ key home is zero. waiting_has (λ entry. IsIn entry (waiting_in s.table)) s.table key home sorted is zero (all_in (waiting_in s.table)))
