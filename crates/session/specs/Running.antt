@@ -131,11 +131,20 @@ pub record HasNotBegun {D : Type 0} (clock : D → ℕ) (left_since : D → ℕ 
   pub may_stand : (stands ≡ []) ⊎ ((s : Standing) × (stands ≡ s ∷ []) × MayStand word tag image s)
   pub crash : Crashes clock left_since may_leave before after tag image stands (is_write_fault status) session.sealed
 
--- what a status says of the command file
+-- the source was read to its end, and its bytes are some items
+pub record IsFileRead (left rest : Option (List ℕ)) : Type 0 where
+  pub bytes : List ℕ
+  pub parts : List Part
+  pub read : HasRead left rest bytes
+  pub file : file_of bytes ≡ Ok parts
+
+-- what a status says of the command file: it is bad, it couldn't be read, or, where neither the words nor want of memory ended the session, it is good and was read to its end
 abbrev pub ReadSo : Status → (left rest : Option (List ℕ)) → (before now : ℕ) → Type 0
 ReadSo (BadFile line kind) left rest before now = (bytes : List ℕ) × IsReadOut left rest bytes × (file_of bytes ≡ Err (record { line = line; kind = kind }))
 ReadSo SourceFault left rest before now = Rose before now
-ReadSo _ left rest before now = ⊤
+ReadSo Usage left rest before now = ⊤
+ReadSo OutOfMemory left rest before now = ⊤
+ReadSo _ left rest before now = IsFileRead left rest
 
 -- a session that ended so has called no device: the disk, the output and the session are as they were
 abbrev pub BeforeDevices : Status → Type 0 → Type 0
