@@ -15,6 +15,11 @@ key_cmp a b = ordering_then (slice_cmp nat_cmp a.digest b.digest) (nat_cmp a.len
 abbrev pub key_eq : Key → Key → Bool
 key_eq a b = bytes_eq a.digest b.digest && (a.len == b.len)
 
+-- how keys are made: the key of each content, and the number that stands for this function in an image
+pub record Keying : Type 0 where
+  pub key_of : List ℕ → Key
+  pub tag : ℕ
+
 -- the key by SHA-256
 abbrev pub sha256_key : List ℕ → Key
 sha256_key content = record { digest = sha256 content; len = length content }

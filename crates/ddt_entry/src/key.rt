@@ -1,4 +1,5 @@
 ghost use Rattle.std.specs.Prelude.{◌≡◌, ℕ, ◌<◌, ◌^◌, List, length};
+ghost use Rattle.ddt_entry.specs.Keys.{Keying};
 
 use std::marker::Sync;
 
@@ -13,23 +14,18 @@ pub struct Key {
 
 /// How a content's key is made. The key is a function of the content, and has its length.
 pub trait KeyOf: Sync {
-    ghost use Rattle.ddt_entry.specs.declared.key.Key.{Key};
-
-    /// The key of each content.
-    ghost key_of: { Self → List ℕ → Key };
-
-    /// The number that stands for this function in an image.
-    ghost tag_of: { Self → ℕ };
+    /// The key of each content, and the number that stands for this function in an image.
+    ghost keying: { Self → Keying };
 
     /// The number that stands for this function in an image.
     fn tag(&self) -> u8
-        ensures { result ≡ tag_of self.now };
+        ensures { result ≡ (keying self.now).tag };
 
     /// The key of a content of 1 to 2^32 - 1 bytes. Takes no memory.
     fn key(&self, content: &[u8]) -> Key
         requires some { 0 < length content.now }
         requires fits { length content.now < 2 ^ 32 }
-        ensures { result ≡ key_of self.now content.now };
+        ensures { result ≡ (keying self.now).key_of content.now };
 
-    ghost keeps_length: { (keyer : Self) (content : List ℕ) → (key_of keyer content).len ≡ length content };
+    ghost keeps_length: { (keyer : Self) (content : List ℕ) → ((keying keyer).key_of content).len ≡ length content };
 }

@@ -9,9 +9,7 @@ use sha2::{Digest, Sha256};
 pub struct Sha256Key;
 
 impl KeyOf for Sha256Key {
-    ghost key_of = { λ _ content. sha256_key content };
-
-    ghost tag_of = { λ _. 1 };
+    ghost keying = { λ _. record { key_of = sha256_key; tag = 1 } };
 
     ghost keeps_length = { λ _ _. refl };
 

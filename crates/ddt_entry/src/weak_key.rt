@@ -9,9 +9,7 @@ use crate::key::{Key, KeyOf};
 pub struct WeakKey;
 
 impl KeyOf for WeakKey {
-    ghost key_of = { λ _ content. weak_key content };
-
-    ghost tag_of = { λ _. 255 };
+    ghost keying = { λ _. record { key_of = weak_key; tag = 255 } };
 
     ghost keeps_length = { λ _ _. refl };
 
