@@ -1,5 +1,6 @@
 -- What a closed group makes of a pool in memory, when it can be synced, and what stands after it.
-use Rattle.std.specs.Prelude.{◌≡◌, ◌⊎◌, ⊤, ℕ, ◌<◌, ◌≤◌, ◌+◌, Bool, true, false, not, ◌==◌, List, length, map, sum_by, count_by, slice_index_or, Option, Some, None}
+use Rattle.std.specs.Prelude.{◌≡◌, ◌⊎◌, ⊤, ℕ, ◌<◌, ◌≤◌, ◌+◌, Bool, true, false, not, ◌==◌, List, length, map, sum_by, count_by}
+use Rattle.std.specs.Prelude.{slice_index_or, Option, Some, None}
 use Rattle.std.specs.List.{AllByRecursion, list_any}
 use Rattle.ddt_entry.specs.declared.key.Key.{Key}
 use Rattle.ddt_entry.specs.declared.entry.Home.{Home}
@@ -46,7 +47,8 @@ table_after held closed = sync_table closed.log held.table
 
 abbrev pub pool_with : Image → Held → PlainClosed → Pool
 pool_with image held closed =
-    pool_after image closed.contents (slots_after closed.slots held.slots) (table_after held closed) closed.modes closed.quota (held.group + 1)
+    pool_after image closed.contents (slots_after closed.slots held.slots) (table_after held closed) closed.modes closed.quota
+    (held.group + 1)
 
 abbrev pub standing_with : Image → Held → PlainClosed → (pages : List ℕ) → Standing
 standing_with image held closed pages = record {
@@ -69,7 +71,8 @@ pub record IsInRange (held : Held) (closed : PlainClosed) : Type 0 where
   pub changes : AllByRecursion (IsChangeWithin held.sectors (held.group + 1)) closed.log
   pub lengths : AllByRecursion HasLength closed.log
   pub slots : AllByRecursion (ChangesSlotWithin held.sectors (held.group + 1)) closed.slots
-  pub counts : (key : Key) (home : Home) → found (table_after held closed) key ≡ Some home → home.count ≤ length (slots_after closed.slots held.slots)
+  pub counts : (key : Key) (home : Home) → found (table_after held closed) key ≡ Some home
+      → home.count ≤ length (slots_after closed.slots held.slots)
   pub behind : AllByRecursion (λ stored. 32 ≤ stored.place) closed.contents
   pub on_disk : AllByRecursion (λ stored. stored.place < held.sectors) closed.contents
   pub blocks : AllByRecursion (λ stored. length stored.bytes ≤ 4096) closed.contents
@@ -78,7 +81,8 @@ pub record IsInRange (held : Held) (closed : PlainClosed) : Type 0 where
 abbrev pub IsNamed : (used : List Bool) → (contents : List Stored) → (place : ℕ) → Type 0
 IsNamed used contents place = (slice_index_or used place false ≡ true) ⊎ (list_any (λ stored. stored.place == place) contents ≡ true)
 
--- over told contents: the pool in memory stands for a pool, the group's blocks have places that were free, each place that is named then has a block, what the group makes of the pool is well-formed and its table matches it, and there is room for the pages
+-- over told contents: the pool in memory stands for a pool, the group's blocks have places that were free, each place that is named then
+-- has a block, what the group makes of the pool is well-formed and its table matches it, and there is room for the pages
 pub record CanSync (image : Image) (held : Held) (closed : PlainClosed) : Type 0 where
   pub pool : Pool
   pub table : TableState

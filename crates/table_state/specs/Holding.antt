@@ -1,5 +1,5 @@
 -- When an image holds what stands: a pool with its table, its sectors and pages, and the blocks of the homes that wait.
-use Rattle.std.specs.Prelude.{◌≡◌, ℕ, List, take, Some}
+use Rattle.std.specs.Prelude.{◌≡◌, ℕ, take, Some}
 use Rattle.disk_model.specs.Images.{Image, sector_at}
 use Rattle.ddt_entry.specs.declared.key.Key.{Key}
 use Rattle.ddt_entry.specs.declared.entry.Home.{Home}
@@ -14,7 +14,8 @@ WaitingStand image s =
     (key : Key) (home : Home) → found s.table key ≡ Some home → home.count ≡ 0
     → take key.len (s.blocks home.place) ≡ take key.len (sector_at image home.place)
 
--- the image stands for the pool with its table, its seal has the pool's sectors, these are the sectors of its pages, and the homes that wait have their blocks
+-- the image stands for the pool with its table, its seal has the pool's sectors, these are the sectors of its pages, and the homes that
+-- wait have their blocks
 pub record Holds (tag : ℕ) (image : Image) (s : Standing) : Type 0 where
   pub state : StandsFor tag image s.pool s.table
   pub sectors : state.seal.sectors ≡ s.sectors
