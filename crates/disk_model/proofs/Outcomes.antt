@@ -81,7 +81,8 @@ earlier calls call done within = take-append-le done calls (call ∷ []) within
 -- a call that was recorded
 pub elapses_by_call : (sectors : ℕ) (start : Image) (calls : List Call) (call : Call)
     (write_faults read_faults more_write_faults more_read_faults : ℕ)
-    → Elapses (told_by sectors start calls write_faults read_faults) (told_by sectors start (calls ++ call ∷ []) more_write_faults more_read_faults)
+    → Elapses (told_by sectors start calls write_faults read_faults)
+    (told_by sectors start (calls ++ call ∷ []) more_write_faults more_read_faults)
 elapses_by_call sectors start calls call write_faults read_faults more_write_faults more_read_faults =
     record { later = omega (arith, more); nothing_else = nothing_else; keeps = keeps }
   where

@@ -9,7 +9,8 @@ use Rattle.disk_model.specs.Memory.{MemoryDisk, MayLeave, MayBeLeft, WasLeft, ce
 use Rattle.disk_model.specs.declared.call.Call.{Call}
 
 -- this moment is one of those since an earlier one
-left_now : (disk : MemoryDisk) (since : ℕ) (c : Image) → since ≤ length disk.calls → MayBeLeft disk c → WasLeft disk.sectors disk.start disk.calls since c
+left_now : (disk : MemoryDisk) (since : ℕ) (c : Image) → since ≤ length disk.calls → MayBeLeft disk c
+    → WasLeft disk.sectors disk.start disk.calls since c
 left_now disk since c earlier left = record {
   done = length disk.calls;
   no_earlier = earlier;

@@ -11,4 +11,6 @@ returns-then-sectors-lt-FEWEST_SECTORS-clause-found g c =
 pub returns-clause-found : goal.returns-clause-found
 returns-clause-found g c =
     let ended : c.slots.slot ≡ slot_count = search rules in
-    told_all c.args.version (g.D.Disk.state c.args.disk.now).seen c.slots.best (subst (λ n. IfSome (g.D.Disk.state c.args.disk.now).seen (λ image. c.slots.best ≡ highest (seal_at c.args.version image) n)) ended c.slots.invariant.0)
+    told_all c.args.version (g.D.Disk.state c.args.disk.now).seen c.slots.best
+    (subst (λ n. IfSome (g.D.Disk.state c.args.disk.now).seen (λ image. c.slots.best ≡ highest (seal_at c.args.version image) n)) ended
+    c.slots.invariant.0)
