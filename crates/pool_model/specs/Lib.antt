@@ -1,3 +1,4 @@
+pub mod ByKey
 pub mod Clash
 pub mod Crash
 pub mod Command

@@ -9,10 +9,10 @@ use Rattle.ddt_entry.proofs.KeyLaws.{key_eq-symm}
 use Rattle.pool_model.specs.Pool.{Pointer, Pairwise, IsApart, GoTogether, SharesHome, LiesWithin, run_length, is_tracked, is_at, tracks}
 use Rattle.pool_model.specs.Table.{counted, IsApartFrom}
 use Rattle.pool_model.specs.Command.{home_at}
-use Rattle.course_laws.proofs.Pointers.{all_from, all_from_both, all_fail, first_has, apart_turned, tracks-key}
-use Rattle.course_laws.proofs.Homes.{left_after, home_now}
-use Rattle.course_laws.proofs.Keeping.{Waits, IsOpen, HomeWithin, IsKept}
-use Rattle.course_laws.proofs.Joining.{Beside, first_beside}
+use Rattle.pool_model.proofs.Pointers.{all_from, all_from_both, all_fail, first_has, apart_turned, tracks-key}
+use Rattle.pool_model.proofs.Homes.{left_after, home_now}
+use Rattle.pool_model.proofs.Keeping.{Waits, IsOpen, HomeWithin, IsKept}
+use Rattle.pool_model.proofs.Joining.{Beside, first_beside}
 
 pub all_filter : (P : Pointer → Type 0) (test : Pointer → Bool) (ps : List Pointer) → AllByRecursion P ps → AllByRecursion P (filter test ps)
 all_filter P test [] all = tt

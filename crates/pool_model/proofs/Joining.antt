@@ -7,8 +7,8 @@ use Rattle.ddt_entry.specs.Keys.{key_eq}
 use Rattle.ddt_entry.proofs.KeyLaws.{key_eq-true, key_eq-same}
 use Rattle.pool_model.specs.Pool.{Pointer, Pairwise, IsApart, GoTogether, SharesHome, LiesWithin, run_length, is_tracked, is_shared, is_at, tracks}
 use Rattle.pool_model.specs.Table.{IsApartFrom}
-use Rattle.course_laws.proofs.Pointers.{all_from, all_from_both, all_fail, all_unfound, first_has, apart_turned, shared_tracks, tracks-key, is_shared-symm}
-use Rattle.course_laws.proofs.Keeping.{Waits, IsUngiven, IsKept, CanJoin}
+use Rattle.pool_model.proofs.Pointers.{all_from, all_from_both, all_fail, all_unfound, first_has, apart_turned, shared_tracks, tracks-key, is_shared-symm}
+use Rattle.pool_model.proofs.Keeping.{Waits, IsUngiven, IsKept, CanJoin}
 
 -- the last run that was given out
 last_given : (given : List (ℕ × ℕ)) (place length a n : ℕ) → IsUngiven (given ++ (place, length) ∷ []) a n → IsUngiven given a n × IsApart place length a n

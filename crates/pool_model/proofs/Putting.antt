@@ -10,9 +10,9 @@ use Rattle.pool_model.specs.Pool.{Pointer, tracked, run_length, is_tracked, is_a
 use Rattle.pool_model.specs.Plain.{Act, write, read, free, Task, to_write}
 use Rattle.pool_model.specs.Table.{counted, found}
 use Rattle.pool_model.specs.Command.{Opening, Turn, Course, Spot, nowhere, at_home, at_fresh, Row, known_home, last_tracked, slot_row, mode_row, uses_table, is_fault, allows, pointer_at, next_fresh, placed, naming, replied, after_write, after_act, after}
-use Rattle.course_laws.specs.ByKey.{is_touched, IsWrite}
-use Rattle.course_laws.proofs.Homes.{left_by, home_now, known_home-now}
-use Rattle.course_laws.proofs.Rows.{SpotFits, FitsFresh, outside, first, row_fits}
+use Rattle.pool_model.specs.ByKey.{is_touched, IsWrite}
+use Rattle.pool_model.proofs.Homes.{left_by, home_now, known_home-now}
+use Rattle.pool_model.proofs.Rows.{SpotFits, FitsFresh, outside, first, row_fits}
 
 -- the home that a course has left of a key, and the key's home
 abbrev pub left_of : Opening → Course → Key → Option Home

@@ -8,16 +8,16 @@ use Rattle.pool_model.specs.Pool.{Pool, Pointer, IsApart, IsWellFormed, tracks, 
 use Rattle.pool_model.specs.Table.{found, IsApartFrom}
 use Rattle.pool_model.specs.Command.{Opening, Turn, Course, after}
 use Rattle.pool_model.specs.Group.{opened, course_of}
-use Rattle.course_laws.specs.ByKey.{MatchesByKey, IsUnnamedByKey, AreFreshByKey, ChangesByKey, home_after}
-use Rattle.course_laws.proofs.Pointers.{apart_turned}
-use Rattle.course_laws.proofs.Homes.{matched_home, left_now, zero_uncounted}
-use Rattle.course_laws.proofs.Keeping.{Waits, IsOpen, IsKept}
-use Rattle.course_laws.proofs.Settling.{settled_uncounted}
-use Rattle.course_laws.proofs.Steps.{left_of, home_of}
-use Rattle.course_laws.proofs.Courses.{IsTouching, kept_opened}
-use Rattle.course_laws.proofs.Aside.{AreBefore, IsAside, before_opened, aside_opened}
-use Rattle.course_laws.proofs.Turning.{one_turn, touching_turn, given_turn, kept_turn, aside_turn}
-use Rattle.course_laws.proofs.Writing.{after_settled, gone_of, after_counted}
+use Rattle.pool_model.specs.ByKey.{MatchesByKey, IsUnnamedByKey, AreFreshByKey, ChangesByKey, home_after}
+use Rattle.pool_model.proofs.Pointers.{apart_turned}
+use Rattle.pool_model.proofs.Homes.{matched_home, left_now, zero_uncounted}
+use Rattle.pool_model.proofs.Keeping.{Waits, IsOpen, IsKept}
+use Rattle.pool_model.proofs.Settling.{settled_uncounted}
+use Rattle.pool_model.proofs.Putting.{left_of, home_of}
+use Rattle.pool_model.proofs.Courses.{IsTouching, kept_opened}
+use Rattle.pool_model.proofs.Aside.{AreBefore, IsAside, before_opened, aside_opened}
+use Rattle.pool_model.proofs.Turning.{one_turn, touching_turn, given_turn, kept_turn, aside_turn}
+use Rattle.pool_model.proofs.Writing.{after_settled, gone_of, after_counted}
 
 -- a course as its turns leave it
 pub record IsGoing (sectors : ℕ) (unnamed : (place length : ℕ) → Type 0) (opening : Opening) (course : Course) : Type 0 where

@@ -6,8 +6,8 @@ use Rattle.ddt_entry.specs.declared.entry.Home.{Home}
 use Rattle.ddt_entry.specs.Keys.{key_eq}
 use Rattle.pool_model.specs.Pool.{Pointer, Pairwise, IsApart, GoTogether, LiesWithin, run_length, tracks, insert_pointer}
 use Rattle.pool_model.specs.Table.{counted, IsApartFrom}
-use Rattle.course_laws.proofs.Pointers.{all_insert, pairs_insert, none_insert, together_turned}
-use Rattle.course_laws.proofs.Homes.{left_after}
+use Rattle.pool_model.proofs.Pointers.{all_insert, pairs_insert, none_insert, together_turned}
+use Rattle.pool_model.proofs.Homes.{left_after}
 
 -- a home that waits: no pointer of its key is counted, and it is left
 pub record Waits (ps : List Pointer) (left : Key → Option Home) (key : Key) (home : Home) : Type 0 where

@@ -9,12 +9,12 @@ use Rattle.pool_model.specs.Pool.{Pool, Pointer, Mark, plain, tracked, loose, Pa
 use Rattle.pool_model.specs.Table.{found}
 use Rattle.pool_model.specs.Plain.{Act, write, read, free, Reply, to_free}
 use Rattle.pool_model.specs.Command.{Opening, Turn, Course, last_tracked, is_fault, naming, replied, released, free_by_mark, after_free, after_act, after}
-use Rattle.course_laws.specs.ByKey.{AreFreshByKey, is_touched}
-use Rattle.course_laws.proofs.Homes.{left_by, left_after, home_now, left_by-later, home_now-later, left_by-none, none_now}
-use Rattle.course_laws.proofs.Removing.{taken_kept, taken_others}
-use Rattle.course_laws.proofs.Aside.{AreBefore, IsAside, taken_aside, home_aside, fresh_aside}
-use Rattle.course_laws.proofs.Steps.{left_of, home_of, any_last, IsPut, IsAlone, uncounted, unshared, Step, stood, put_fresh, put_home, write_step}
-use Rattle.course_laws.proofs.Courses.{KeptAt, same_kept, fresh_last, kept_step, given_step, IsTouching, touching_step}
+use Rattle.pool_model.specs.ByKey.{AreFreshByKey, is_touched}
+use Rattle.pool_model.proofs.Homes.{left_by, left_after, home_now, left_by-later, home_now-later, left_by-none, none_now}
+use Rattle.pool_model.proofs.Removing.{taken_kept, taken_others}
+use Rattle.pool_model.proofs.Aside.{AreBefore, IsAside, taken_aside, home_aside, fresh_aside}
+use Rattle.pool_model.proofs.Putting.{left_of, home_of, any_last, IsPut, IsAlone, uncounted, unshared, Step, stood, put_fresh, put_home, write_step}
+use Rattle.pool_model.proofs.Courses.{KeptAt, same_kept, fresh_last, kept_step, given_step, IsTouching, touching_step}
 
 -- the pointer of a slot was taken out, and its key was named if it was counted
 pub record IsTaken (course later : Course) (lane slot : ℕ) (p : Pointer) : Type 0 where

@@ -7,13 +7,13 @@ use Rattle.ddt_entry.specs.declared.entry.Home.{Home}
 use Rattle.ddt_entry.specs.Keys.{key_eq}
 use Rattle.ddt_entry.proofs.KeyLaws.{key_eq-true}
 use Rattle.pool_model.specs.Pool.{Pool, Pointer, Pairwise, IsApart, GoTogether, SharesHome, IsWellFormed, run_length, is_tracked, tracks, comes_before, insert_pointer}
-use Rattle.course_laws.specs.ByKey.{MatchesByKey, IsUnnamedByKey}
-use Rattle.course_laws.proofs.Pointers.{all_insert, none_insert, filter_insert, apart_turned, tracks-key}
-use Rattle.course_laws.proofs.Homes.{left_after, home_now, home_now-later, matched_home}
-use Rattle.course_laws.proofs.Keeping.{Waits, IsOpen, IsKept, waited}
-use Rattle.course_laws.proofs.Joining.{Beside, first_beside}
-use Rattle.course_laws.proofs.Removing.{HasHome, has_now, has_within, has_open, has_apart, SameHome, taken_same, waited_or_lost, all_filter}
-use Rattle.course_laws.proofs.Courses.{kept_opened}
+use Rattle.pool_model.specs.ByKey.{MatchesByKey, IsUnnamedByKey}
+use Rattle.pool_model.proofs.Pointers.{all_insert, none_insert, filter_insert, apart_turned, tracks-key}
+use Rattle.pool_model.proofs.Homes.{left_after, home_now, home_now-later, matched_home}
+use Rattle.pool_model.proofs.Keeping.{Waits, IsOpen, IsKept, waited}
+use Rattle.pool_model.proofs.Joining.{Beside, first_beside}
+use Rattle.pool_model.proofs.Removing.{HasHome, has_now, has_within, has_open, has_apart, SameHome, taken_same, waited_or_lost, all_filter}
+use Rattle.pool_model.proofs.Courses.{kept_opened}
 
 -- the homes that a group finds: made by groups before it, apart from each other, and from what it may give out
 pub record AreBefore (sectors number : ℕ) (unnamed : (place length : ℕ) → Type 0) (before : Key → Option Home) : Type 0 where

@@ -7,12 +7,12 @@ use Rattle.pool_model.specs.Pool.{Pool, Pointer, IsWellFormed, tracks}
 use Rattle.pool_model.specs.Table.{counted, home_of_pointers, found, found_over}
 use Rattle.pool_model.specs.Command.{Opening, Turn, Course, after}
 use Rattle.pool_model.specs.Group.{settled, change_from, opened, course_of}
-use Rattle.course_laws.specs.ByKey.{MatchesByKey, IsUnnamedByKey, AreFreshByKey, ChangesByKey, is_touched, home_after, IsWrite}
-use Rattle.course_laws.proofs.Homes.{matched_home, home_now, counted_now, left_now, zero_uncounted, left_by-none, home_now-none}
-use Rattle.course_laws.proofs.Keeping.{Waits, IsKept}
-use Rattle.course_laws.proofs.Settling.{over_settled, settled-same, counted_settled, settled_uncounted}
-use Rattle.course_laws.proofs.Steps.{left_of, home_of, home_of-known, written_step}
-use Rattle.course_laws.proofs.Courses.{IsTouching, IsWriting, kept_step, given_step, touching_step, writing_step, kept_opened}
+use Rattle.pool_model.specs.ByKey.{MatchesByKey, IsUnnamedByKey, AreFreshByKey, ChangesByKey, is_touched, home_after, IsWrite}
+use Rattle.pool_model.proofs.Homes.{matched_home, home_now, counted_now, left_now, zero_uncounted, left_by-none, home_now-none}
+use Rattle.pool_model.proofs.Keeping.{Waits, IsKept}
+use Rattle.pool_model.proofs.Settling.{over_settled, settled-same, counted_settled, settled_uncounted}
+use Rattle.pool_model.proofs.Putting.{left_of, home_of, home_of-known, written_step}
+use Rattle.pool_model.proofs.Courses.{IsTouching, IsWriting, kept_step, given_step, touching_step, writing_step, kept_opened}
 
 -- the home of a key after the group's changes is the one that is settled
 pub after_settled : (opening : Opening) (course : Course) → IsTouching opening course → ChangesByKey opening course
