@@ -42,9 +42,9 @@ use Rattle.table_laws.proofs.Matching.{matches_synced}
 use Rattle.table_laws.proofs.Synced.{found-synced, there_stays}
 use Rattle.table_laws.proofs.Waiting.{waiting_has, waiting_found, waiting_synced}
 use Rattle.table_state.proofs.Syncing.{sync_keeps}
-use Rattle.run_laws.specs.Items.{IsIn, WaitingStays}
-use Rattle.run_laws.proofs.Clashes.{all_in}
-use Rattle.run_laws.proofs.Kept.{waiting_stays}
+use Rattle.pool_model.specs.Waiting.{IsIn, WaitingStays}
+use Rattle.pool_model.proofs.Clashes.{all_in}
+use Rattle.pool_model.proofs.Kept.{waiting_stays}
 use Rattle.course_laws.specs.ByKey.{IsUnnamedByKey, AreFreshByKey, ChangesByKey, MatchesByKey, home_after, IsWrite}
 use Rattle.course_laws.proofs.Pointers.{all_from}
 use Rattle.course_laws.proofs.Counts.{course_counts}

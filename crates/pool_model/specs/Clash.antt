@@ -1,5 +1,5 @@
 -- The premise on digests: no two different contents that meet in a lane whose mode is on have one key.
-use Rattle.std.specs.Prelude.{◌≡◌, ℕ, Bool, true, false, List, [], ◌∷◌, ◌++◌, filter, take}
+use Rattle.std.specs.Prelude.{◌≡◌, ℕ, Bool, true, false, List, [], ◌∷◌, filter, take}
 use Rattle.std.specs.List.{flat_map, AllByRecursion}
 use Rattle.ddt_entry.specs.declared.key.Key.{Key}
 use Rattle.pool_model.specs.declared.commands.Mode.{Mode}

@@ -1,5 +1,5 @@
 -- A whole group of lanes' commands: its turns in an order, the changes that it leaves to the table, and which places it may give out.
-use Rattle.std.specs.Prelude.{◌≡◌, ℕ, ◌+◌, ◌<◌, ◌≤◌, Bool, ◌&&◌, ◌==◌, nat_lt, List, [], length, filter, map, fold, replicate, count_by, Option, Some, None, if◌then◌else◌, slice_set}
+use Rattle.std.specs.Prelude.{◌≡◌, ℕ, ◌+◌, ◌≤◌, Bool, ◌&&◌, ◌==◌, nat_lt, List, [], length, filter, map, fold, replicate, count_by, Option, Some, None, if◌then◌else◌, slice_set}
 use Rattle.std.specs.List.{AllByRecursion, find, filter_map, flat_map, zip, range_with_len}
 use Rattle.std.specs.Option.{option_map}
 use Rattle.ddt_entry.specs.Keys.{Keying}

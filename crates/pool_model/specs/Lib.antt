@@ -11,6 +11,7 @@ pub mod Space
 pub mod Stats
 pub mod Table
 pub mod Text
+pub mod Waiting
 pub mod Worked
 pub mod WorkedRuns
 pub mod WorkedTurns

@@ -1,15 +1,16 @@
 -- The pointers that a group of lanes' commands leaves: those from before, and those of the contents that it writes.
 use Rattle.std.proofs.Common.{ℕ, Bool, true, false, cond, not, List, [], ◌∷◌, Option, Some, None, filter, map, fold}
-use Rattle.std.specs.List.{AllByRecursion, zip}
+use Rattle.std.specs.List.{AllByRecursion, flat_map, zip}
+use Rattle.ddt_entry.specs.Keys.{Keying}
 use Rattle.ddt_entry.specs.declared.key.Key.{Key}
 use Rattle.pool_model.specs.Pool.{Pointer, Mark, plain, tracked, loose, held, mode_of, comes_before, insert_pointer, is_at}
 use Rattle.pool_model.specs.declared.answers.FreeAnswer.TheVariants as freed
 use Rattle.pool_model.specs.Plain.{Act, write, read, free, Task, Reply, to_write, to_free, LaneTold, Told}
 use Rattle.pool_model.specs.Command.{Opening, Turn, Course, Spot, nowhere, at_home, at_fresh, is_fault, after, after_act, after_free, free_by_mark, naming, replied, placed, released, pointer_at, uses_table, write_row}
-use Rattle.pool_model.specs.Group.{Standing, opening_of, opened, fresh_of, tasks_of, turns_of, lane_by_lane}
+use Rattle.pool_model.specs.Group.{Standing, opening_of, opened, fresh_of, tasks_of, turns_of, lane_by_lane, lanes_in_turn}
 use Rattle.pool_model.specs.Run.{noted_course}
 use Rattle.pool_model.specs.Clash.{written_by, contents_in}
-use Rattle.run_laws.proofs.Clashes.{all_left, all_right, all_both}
+use Rattle.pool_model.proofs.Clashes.{all_left, all_right, all_both}
 
 module _ {X : Type 0} where
   passed : (P : X → Type 0) (b : Bool) (x : X) (rest : List X) → P x → AllByRecursion P rest → AllByRecursion P (cond b (x ∷ rest) rest)
@@ -84,10 +85,10 @@ module _ (R : Task → Type 0) where
   turns_zipped (task ∷ tasks) [] all = tt
   turns_zipped (task ∷ tasks) (reply ∷ replies) all = (all.0, turns_zipped tasks replies all.1)
 
-  pub turns_all : (tasks : List Task) (told : List LaneTold) → AllByRecursion R tasks → AllByRecursion (λ (turn : Turn). R turn.task) (lane_by_lane tasks told)
+  turns_all : (tasks : List Task) (told : List LaneTold) → AllByRecursion R tasks → AllByRecursion (λ (turn : Turn). R turn.task) (flat_map (turns_of tasks) told)
   turns_all tasks [] all = tt
   turns_all tasks (lane ∷ told) all =
-      all_both (λ (turn : Turn). R turn.task) (turns_of tasks lane) (lane_by_lane tasks told)
+      all_both (λ (turn : Turn). R turn.task) (turns_of tasks lane) (flat_map (turns_of tasks) told)
       (turns_zipped (tasks_of lane.lane tasks) lane.replies (all_filter R (λ task. _) tasks all)) (turns_all tasks told all)
 
 -- what holds of each content holds of each task's
@@ -97,8 +98,9 @@ contents_each P (task ∷ tasks) all =
     (all_left P (written_by task.act) (contents_in tasks) all, contents_each P tasks (all_right P (written_by task.act) (contents_in tasks) all))
 
 -- each pointer that a group of lanes' commands leaves was there before, or was made for a content that it writes
-pub group_makes : (Q : Pointer → Type 0) (k : List ℕ → Key) (s : Standing) (moment : ℕ) (tasks : List Task) (told : Told) → AllByRecursion (MadeFor Q k) (contents_in tasks)
-    → AllByRecursion Q s.pool.pointers → AllByRecursion Q (noted_course lane_by_lane k s moment tasks told).pool.pointers
-group_makes Q k s moment tasks told new all =
-    turns_make Q (opening_of k s moment) (opened s.pool (fresh_of told.lanes)) (lane_by_lane tasks told.lanes)
-    (turns_all (λ task. AllByRecursion (MadeFor Q k) (written_by task.act)) tasks told.lanes (contents_each (MadeFor Q k) tasks new)) all
+pub group_makes : (Q : Pointer → Type 0) (keying : Keying) (s : Standing) (moment : ℕ) (tasks : List Task) (told : Told)
+    → AllByRecursion (MadeFor Q keying.key_of) (contents_in tasks)
+    → AllByRecursion Q s.pool.pointers → AllByRecursion Q (noted_course (lanes_in_turn keying) s moment tasks told).pool.pointers
+group_makes Q keying s moment tasks told new all =
+    turns_make Q (opening_of keying.key_of s moment) (opened s.pool (fresh_of told.lanes)) (lane_by_lane tasks told)
+    (turns_all (λ task. AllByRecursion (MadeFor Q keying.key_of) (written_by task.act)) tasks told.lanes (contents_each (MadeFor Q keying.key_of) tasks new)) all
