@@ -4,7 +4,7 @@ use Rattle.std.specs.Prelude.{slice_index_or}
 use Rattle.std.specs.List.{AllByRecursion, list_any}
 use Rattle.std.proofs.lemmas.List.{length-map}
 use Rattle.disk_model.specs.Images.{Image, TellsImage, sector_at}
-use Rattle.disk_model.specs.Crashes.{LeavesOnly}
+use Rattle.disk_model.specs.Crashes.{DiskState, LeavesOnly}
 use Rattle.disk_model.proofs.Moments.{weakened}
 use Rattle.page_tree.specs.Chains.{AreOpen}
 use Rattle.uber_ring.specs.Ring.{slot_of, gate_sector, body_sector}
@@ -97,9 +97,10 @@ module _ (held : Held) (group : Group) (sound : IsSound held) (next : Held) (par
           may
 
       -- as it goes on
-      pub while_syncing : {D : Type 0} (clock : D → ℕ) (left_since : D → ℕ → Image → Type 0) (old new : D) → LeavesOnly clock left_since old new (MayBeSealed (slot_of seal.group) group.contents parts (with_roots seal parts) image) → LeavesOnly clock left_since old new (SyncLeaves image held group pool table)
-      while_syncing clock left_since old new run =
-          weakened clock left_since old new (MayBeSealed (slot_of seal.group) group.contents parts (with_roots seal parts) image) (SyncLeaves image held group pool table) run leaves_of
+      pub while_syncing : {old new : DiskState}
+          → LeavesOnly old new (MayBeSealed (slot_of seal.group) group.contents parts (with_roots seal parts) image)
+          → LeavesOnly old new (SyncLeaves image held group pool table)
+      while_syncing run = weakened (SyncLeaves image held group pool table) run leaves_of
 
 -- the pool after a plan has the pages that its chains take
 pub pages_after : (held : Held) (group : Group) (next : Held) (parts : List ChainPart) (seal : Seal) → IsPlan held group next parts seal → length next.pages ≡ pages_of (records_after held group)

@@ -1,16 +1,15 @@
 ghost use Rattle.std.specs.Prelude.{◌≡◌, ◌≤◌, ◌+◌, ℕ, Some, None, length, IfOk, OnOk, OnErr, IsErrOf};
 ghost use Rattle.disk_model.specs.Images.{Image, Stays};
 ghost use Rattle.disk_model.specs.Crashes.{LeavesOnly, NothingPending};
-ghost use Rattle.disk_model.specs.Faults.{Rose};
 ghost use Rattle.pool_model.specs.Pool.{Pool as APool};
 ghost use Rattle.pool_model.specs.Table.{TableState};
-ghost use Rattle.pool_model.specs.declared.faults.SyncFault.TheVariants.{ReadFault, WriteFault, Damaged, Memory};
+ghost use Rattle.pool_model.specs.declared.faults.SyncFault.TheVariants.{ReadFault, Damaged, Memory};
 ghost use Rattle.table_state.specs.Pools.{IsHeld};
 ghost use Rattle.table_state.specs.SealForms.{last_group};
 ghost use Rattle.table_state.specs.Sound.{IsSound};
 ghost use Rattle.txg_sync.specs.Placing.{pages_of};
 ghost use Rattle.txg_sync.specs.Planning.{group_in, IsNext, IsPlan};
-ghost use Rattle.txg_sync.specs.SyncFaults.{sync_fault_of};
+ghost use Rattle.txg_sync.specs.SyncFaults.{sync_fault_of, SyncAccounts};
 ghost use Rattle.txg_sync.specs.Syncing.{IsInRange, CanSync, CanSyncOver, SyncLeaves, Syncs, records_after};
 
 use crate::fault::SealFault;
@@ -35,26 +34,23 @@ pub fn sync<D: Disk>(
     requires sound { IsSound pool.old }
     requires range { IsInRange pool.old (group_in closed.now) }
     requires last { pool.old.group + 1 ≤ last_group }
-    requires on_disk { pool.old.sectors ≤ D.sectors_of disk.old }
-    requires over { CanSyncOver (D.seen disk.old) pool.old (group_in closed.now) }
-    ensures sectors { D.sectors_of disk.new ≡ D.sectors_of disk.old }
+    requires on_disk { pool.old.sectors ≤ (D.state disk.old).sectors }
+    requires over { CanSyncOver (D.state disk.old).seen pool.old (group_in closed.now) }
     ensures number { IfOk result (λ number. (number ≡ pool.old.group + 1) × (number ≡ pool.new.group)) }
-    ensures synced { OnOk result (Syncs (D.seen disk.old) pool.old (group_in closed.now) pool.new (D.seen disk.new)) }
+    ensures synced { OnOk result (Syncs (D.state disk.old).seen pool.old (group_in closed.now) pool.new (D.state disk.new).seen) }
     ensures made { OnOk result (IsNext pool.old (group_in closed.now) pool.new.pages pool.new) }
     ensures pages { OnOk result (length pool.new.pages ≡ pages_of (records_after pool.old (group_in closed.now))) }
     ensures next { OnOk result (IsSound pool.new) }
     ensures kept { OnErr result (pool.new ≡ pool.old) }
-    ensures durable { OnOk result (NothingPending (D.seen disk.new) (D.may_leave disk.new)) }
-    ensures any_moment { (image : Image) (before : APool) (table : TableState) → D.seen disk.old ≡ Some image → NothingPending (Some image) (D.may_leave disk.old)
-        → IsHeld image pool.old before table → LeavesOnly D.clock D.left_since disk.old disk.new (SyncLeaves image pool.old (group_in closed.now) before table) }
+    ensures durable { OnOk result (NothingPending (D.state disk.new).seen (D.state disk.new).may_leave) }
+    ensures any_moment { (image : Image) (before : APool) (table : TableState) → (D.state disk.old).seen ≡ Some image
+        → NothingPending (Some image) (D.state disk.old).may_leave → IsHeld image pool.old before table
+        → LeavesOnly (D.state disk.old) (D.state disk.new) (SyncLeaves image pool.old (group_in closed.now) before table) }
     ensures unwritten { IsErrOf result Memory → disk.new ≡ disk.old }
-    ensures damaged { (sector : ℕ) → IsErrOf result (Damaged sector) → (disk.new ≡ disk.old) × (D.seen disk.old ≡ None) }
-    ensures unread { IsErrOf result ReadFault → Stays (D.seen disk.old) (D.seen disk.new) }
-    ensures unread_crash { IsErrOf result ReadFault → (c : Image) → D.may_leave disk.new c → D.may_leave disk.old c }
-    ensures reads { D.read_faults disk.old ≤ D.read_faults disk.new }
-    ensures writes { D.write_faults disk.old ≤ D.write_faults disk.new }
-    ensures read_cause { IsErrOf result ReadFault → Rose (D.read_faults disk.old) (D.read_faults disk.new) }
-    ensures write_cause { IsErrOf result WriteFault → Rose (D.write_faults disk.old) (D.write_faults disk.new) }
+    ensures damaged { (sector : ℕ) → IsErrOf result (Damaged sector) → (disk.new ≡ disk.old) × ((D.state disk.old).seen ≡ None) }
+    ensures unread { IsErrOf result ReadFault → Stays (D.state disk.old).seen (D.state disk.new).seen }
+    ensures unread_crash { IsErrOf result ReadFault → (c : Image) → (D.state disk.new).may_leave c → (D.state disk.old).may_leave c }
+    ensures accounts { SyncAccounts (D.state disk.old) (D.state disk.new) result }
 {
     crash_laws(disk);
     let _sectors = disk.sectors();
@@ -77,27 +73,24 @@ fn write_plan<D: Disk>(
     requires sound { IsSound pool.old }
     requires range { IsInRange pool.old (group_in closed.now) }
     requires last { pool.old.group + 1 ≤ last_group }
-    requires on_disk { pool.old.sectors ≤ D.sectors_of disk.old }
-    requires over { CanSyncOver (D.seen disk.old) pool.old (group_in closed.now) }
+    requires on_disk { pool.old.sectors ≤ (D.state disk.old).sectors }
+    requires over { CanSyncOver (D.state disk.old).seen pool.old (group_in closed.now) }
     requires planned { IsPlan pool.old (group_in closed.now) planned.next planned.parts.items planned.seal }
-    ensures sectors { D.sectors_of disk.new ≡ D.sectors_of disk.old }
     ensures number { IfOk result (λ number. (number ≡ pool.old.group + 1) × (number ≡ pool.new.group)) }
-    ensures synced { OnOk result (Syncs (D.seen disk.old) pool.old (group_in closed.now) pool.new (D.seen disk.new)) }
+    ensures synced { OnOk result (Syncs (D.state disk.old).seen pool.old (group_in closed.now) pool.new (D.state disk.new).seen) }
     ensures made { OnOk result (IsNext pool.old (group_in closed.now) pool.new.pages pool.new) }
     ensures pages { OnOk result (length pool.new.pages ≡ pages_of (records_after pool.old (group_in closed.now))) }
     ensures next { OnOk result (IsSound pool.new) }
     ensures kept { OnErr result (pool.new ≡ pool.old) }
-    ensures durable { OnOk result (NothingPending (D.seen disk.new) (D.may_leave disk.new)) }
-    ensures any_moment { (image : Image) (before : APool) (table : TableState) → D.seen disk.old ≡ Some image → NothingPending (Some image) (D.may_leave disk.old)
-        → IsHeld image pool.old before table → LeavesOnly D.clock D.left_since disk.old disk.new (SyncLeaves image pool.old (group_in closed.now) before table) }
+    ensures durable { OnOk result (NothingPending (D.state disk.new).seen (D.state disk.new).may_leave) }
+    ensures any_moment { (image : Image) (before : APool) (table : TableState) → (D.state disk.old).seen ≡ Some image
+        → NothingPending (Some image) (D.state disk.old).may_leave → IsHeld image pool.old before table
+        → LeavesOnly (D.state disk.old) (D.state disk.new) (SyncLeaves image pool.old (group_in closed.now) before table) }
     ensures device { IsErrOf result Memory → ⊥ }
     ensures whole { (sector : ℕ) → IsErrOf result (Damaged sector) → ⊥ }
-    ensures unread { IsErrOf result ReadFault → Stays (D.seen disk.old) (D.seen disk.new) }
-    ensures unread_crash { IsErrOf result ReadFault → (c : Image) → D.may_leave disk.new c → D.may_leave disk.old c }
-    ensures reads { D.read_faults disk.old ≤ D.read_faults disk.new }
-    ensures writes { D.write_faults disk.old ≤ D.write_faults disk.new }
-    ensures read_cause { IsErrOf result ReadFault → Rose (D.read_faults disk.old) (D.read_faults disk.new) }
-    ensures write_cause { IsErrOf result WriteFault → Rose (D.write_faults disk.old) (D.write_faults disk.new) }
+    ensures unread { IsErrOf result ReadFault → Stays (D.state disk.old).seen (D.state disk.new).seen }
+    ensures unread_crash { IsErrOf result ReadFault → (c : Image) → (D.state disk.new).may_leave c → (D.state disk.old).may_leave c }
+    ensures accounts { SyncAccounts (D.state disk.old) (D.state disk.new) result }
 {
     let _sectors = disk.sectors();
     let Plan { next, parts, seal } = planned;
