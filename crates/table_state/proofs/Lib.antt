@@ -4,6 +4,7 @@ pub mod Held
 pub mod Kept
 pub mod Lists
 pub mod PagesOf
+pub mod RoomLaws
 pub mod SealBack
 pub mod SlotCounts
 pub mod SlotLaws
