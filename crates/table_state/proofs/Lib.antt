@@ -2,17 +2,14 @@ pub mod Created
 pub mod FlatLaws
 pub mod Held
 pub mod Kept
-pub mod Lists
 pub mod PagesOf
 pub mod SealBack
 pub mod SlotCounts
 pub mod SlotLaws
 pub mod SlotsAfter
-pub mod Sorted
 pub mod Spelled
 pub mod Stands
 pub mod Syncing
 pub mod TableBack
-pub mod TablePuts
 pub mod TableRoom
 pub mod UsedLaws
