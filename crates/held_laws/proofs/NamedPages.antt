@@ -14,7 +14,7 @@ use Rattle.uber_ring.specs.declared.seal.Seal.{Seal}
 use Rattle.pool_model.specs.Pool.{Pool, Pointer, Pairwise, IsApart, run_length}
 use Rattle.pool_model.specs.Space.{chain_pages, image_pages}
 use Rattle.pool_model.specs.Table.{TableState, waiting_in}
-use Rattle.pool_model.specs.Group.{Standing, IsUnnamed, ArePages}
+use Rattle.pool_model.specs.Group.{Standing, IsUnnamed}
 use Rattle.table_state.specs.SealForms.{slots_root, unique_root, duplicate_root, active_root, flushing_root}
 use Rattle.table_state.specs.Flat.{Flat, IsRead, Reads, StandsFor, IsClear, table_in, pointer_of}
 use Rattle.table_state.specs.Pools.{Held, IsHeld}
@@ -206,21 +206,15 @@ module _ (image : Image) (held : Held) (pool : Pool) (table : TableState) (is : 
   lengths : HasKeyLengths table
   lengths = subst HasKeyLengths is.table_is sound.lengths
 
-  pub pages_nameless : (blocks : ℕ → List ℕ) → AllByRecursion (λ page. IsUnnamed (record { pool = pool; table = table; blocks = blocks }) page 1) held.pages
+  pub pages_nameless : (blocks : ℕ → List ℕ) → AllByRecursion (λ page. IsUnnamed (record { pool = pool; table = table; blocks = blocks; sectors = held.sectors; pages = held.pages }) page 1) held.pages
   pages_nameless blocks =
-      subst (AllByRecursion (λ page. IsUnnamed (record { pool = pool; table = table; blocks = blocks }) page 1)) (sym is.pages_are)
-      (pages_unnamed (record { pool = pool; table = table; blocks = blocks }) flat.named (pages_behind image seal flat is.stands.read) is.stands.pointers_clear runs is.stands.waiting_clear
+      subst (AllByRecursion (λ page. IsUnnamed (record { pool = pool; table = table; blocks = blocks; sectors = held.sectors; pages = held.pages }) page 1)) (sym is.pages_are)
+      (pages_unnamed (record { pool = pool; table = table; blocks = blocks; sectors = held.sectors; pages = held.pages }) flat.named (pages_behind image seal flat is.stands.read) is.stands.pointers_clear runs is.stands.waiting_clear
       (waiting_runs table lengths.zap lengths.flush lengths.active))
 
-  -- the pages of a pool in memory are those of its image, where the seal counts the changes that the table has
-  pub pages_by_seal : (s : Standing) → s.pool ≡ pool → s.table ≡ table → (tag : ℕ) (state : StandsFor tag image pool table) → state.seal.active_changes ≡ length table.active → state.seal.flushing_changes ≡ length table.flush
-      → ArePages held.sectors (image_pages pool table) s held.pages
-  pages_by_seal s same_pool same_table tag state active flushing =
-      subst (λ (p : Pool). ArePages held.sectors (image_pages pool table) (record { pool = p; table = s.table; blocks = s.blocks }) held.pages) (sym same_pool)
-      (subst (λ (t : TableState). ArePages held.sectors (image_pages pool table) (record { pool = pool; table = t; blocks = s.blocks }) held.pages) (sym same_table)
-      (record { count_is = pages_exact tag state active flushing; apart = pages_apart; unnamed = pages_nameless s.blocks; within = pages_inside }))
-
-  -- as it does where the image keeps the table as a sync writes it
-  pub pages_as_written : (s : Standing) → s.pool ≡ pool → s.table ≡ table → (tag : ℕ) (state : StandsFor tag image pool table) (slots : List SlotRecord) (pages : List ℕ) → state.flat ≡ flat_of slots table pages → ArePages held.sectors (image_pages pool table) s held.pages
-  pages_as_written s same_pool same_table tag state slots pages kept =
-      pages_by_seal s same_pool same_table tag state (state.whole.active_changes ∙ ap (λ (f : Flat). length f.active) kept) (state.whole.flushing_changes ∙ ap (λ (f : Flat). length f.flushing) kept)
+  -- so the pages are as many as the image takes where it keeps the table as a sync writes it
+  pub pages_as_written : (tag : ℕ) (state : StandsFor tag image pool table) (slots : List SlotRecord) (pages : List ℕ)
+      → state.flat ≡ flat_of slots table pages → length held.pages ≡ image_pages pool table
+  pages_as_written tag state slots pages kept =
+      pages_exact tag state (state.whole.active_changes ∙ ap (λ (f : Flat). length f.active) kept)
+      (state.whole.flushing_changes ∙ ap (λ (f : Flat). length f.flushing) kept)

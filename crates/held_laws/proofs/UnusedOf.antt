@@ -1,5 +1,5 @@
 -- A sector that a pool in memory doesn't use is free for a run of one sector, and so are the first such ones together.
-use Rattle.std.proofs.Common.{◌≡◌, ◌≢◌, ℕ, ◌+◌, ◌<◌, ◌≤◌, Bool, true, false, ◌||◌, ◌==◌, inl, inr, ⊎_elim, List, [], ◌∷◌, ◌++◌, map, take, drop, take-append-drop, sym, ap, subst, ◌∙◌, eqb, eq-eqb, arith}
+use Rattle.std.proofs.Common.{◌≡◌, ◌≢◌, ℕ, ◌+◌, ◌<◌, Bool, true, false, ◌||◌, ◌==◌, inl, inr, ⊎_elim, List, [], ◌∷◌, ◌++◌, map, take, drop, take-append-drop, sym, ap, subst, ◌∙◌, eqb, eq-eqb, arith}
 use Rattle.std.specs.Prelude.{nat_lt, slice_index_or}
 use Rattle.std.specs.List.{AllByRecursion, IsDistinct, list_any}
 use Rattle.std.proofs.lemmas.Bool.{or_parts, and_from, lt-ltb, le-leb, ltb-false, cases_lt}
@@ -12,8 +12,9 @@ use Rattle.grant_book.proofs.FreeLaws.{found-free, found-distinct, IsFree as IsF
 use Rattle.pool_model.specs.Pool.{Pool, Pointer, Pairwise, IsApart, run_length}
 use Rattle.pool_model.specs.Space.{is_used, lies_in, used_sectors}
 use Rattle.pool_model.specs.Table.{TableState, waiting_in}
-use Rattle.pool_model.specs.Group.{IsFree, AreFresh}
-use Rattle.table_state.specs.Pools.{Held, IsHeld}
+use Rattle.pool_model.specs.Group.{Standing, IsFree, AreFresh}
+use Rattle.table_state.specs.Holding.{StandsOver}
+use Rattle.table_state.specs.Pools.{Held}
 use Rattle.pool_model.proofs.Lists.{all_from, all_front, all_take}
 use Rattle.table_state.proofs.UsedLaws.{length-used_sectors}
 use Rattle.held_laws.proofs.Members.{clash}
@@ -53,47 +54,47 @@ unused_at sectors pages pool table place unused =
     (cases_lt place sectors)
 
 -- so it is free
-free_by : (sectors : ℕ) (pages : List ℕ) (pool : Pool) (table : TableState) (blocks : ℕ → List ℕ) (place : ℕ) → place < sectors → is_used pages pool table place ≡ false → IsFree sectors pages (record { pool = pool; table = table; blocks = blocks }) place 1
-free_by sectors pages pool table blocks place within unused =
-    let waits = or_parts (nat_lt place 32 || list_any (λ page. page == place) pages || list_any (λ (p : Pointer). lies_in place p.place (run_length p.key)) pool.pointers) (list_any (λ (entry : Entry). lies_in place entry.home.place (run_length entry.key)) (waiting_in table)) unused in
-    let points = or_parts (nat_lt place 32 || list_any (λ page. page == place) pages) (list_any (λ (p : Pointer). lies_in place p.place (run_length p.key)) pool.pointers) waits.0 in
-    let paged = or_parts (nat_lt place 32) (list_any (λ page. page == place) pages) points.0 in
+free_by : (s : Standing) (place : ℕ) → place < s.sectors → is_used s.pages s.pool s.table place ≡ false → IsFree s place 1
+free_by s place within unused =
+    let pointed = λ (p : Pointer). lies_in place p.place (run_length p.key) in
+    let kept = λ (entry : Entry). lies_in place entry.home.place (run_length entry.key) in
+    let paged = λ (page : ℕ). page == place in
+    let waits = or_parts (nat_lt place 32 || list_any paged s.pages || list_any pointed s.pool.pointers) (list_any kept (waiting_in s.table)) unused in
+    let points = or_parts (nat_lt place 32 || list_any paged s.pages) (list_any pointed s.pool.pointers) waits.0 in
+    let first = or_parts (nat_lt place 32) (list_any paged s.pages) points.0 in
     record {
       unnamed = record {
-        start = ltb-false place 32 paged.0;
+        start = ltb-false place 32 first.0;
         no_pointer =
-            all_from (λ (p : Pointer). lies_in place p.place (run_length p.key) ≡ false) (λ (p : Pointer). IsApart place 1 p.place (run_length p.key)) (λ p outside. run_apart place p.place (run_length p.key) outside)
-            pool.pointers (each_fails (λ (p : Pointer). lies_in place p.place (run_length p.key)) pool.pointers points.1);
+            all_from (λ (p : Pointer). lies_in place p.place (run_length p.key) ≡ false)
+            (λ (p : Pointer). IsApart place 1 p.place (run_length p.key))
+            (λ p outside. run_apart place p.place (run_length p.key) outside) s.pool.pointers (each_fails pointed s.pool.pointers points.1);
         not_waiting =
-            all_from (λ (entry : Entry). lies_in place entry.home.place (run_length entry.key) ≡ false) (λ (entry : Entry). IsApart place 1 entry.home.place (run_length entry.key))
+            all_from (λ (entry : Entry). lies_in place entry.home.place (run_length entry.key) ≡ false)
+            (λ (entry : Entry). IsApart place 1 entry.home.place (run_length entry.key))
             (λ entry outside. run_apart place entry.home.place (run_length entry.key) outside)
-            (waiting_in table) (each_fails (λ (entry : Entry). lies_in place entry.home.place (run_length entry.key)) (waiting_in table) waits.1);
+            (waiting_in s.table) (each_fails kept (waiting_in s.table) waits.1);
       };
       end = omega (arith, within);
-      no_page = all_from (λ page. (page == place) ≡ false) (λ page. IsApart place 1 page 1) (λ page other. page_apart place page other) pages (each_fails (λ page. page == place) pages paged.1);
+      no_page =
+          all_from (λ page. (page == place) ≡ false) (λ page. IsApart place 1 page 1)
+          (λ page other. page_apart place page other) s.pages (each_fails paged s.pages first.1);
     }
 
--- what a pool in memory doesn't use is free
-pub unused_free : (image : Image) (held : Held) (pool : Pool) (table : TableState) → IsHeld image held pool table → (blocks : ℕ → List ℕ) (place : ℕ) → slice_index_or held.used place true ≡ false
-    → IsFree held.sectors held.pages (record { pool = pool; table = table; blocks = blocks }) place 1
-unused_free image held pool table is blocks place unused =
-    let at = unused_at held.sectors held.pages pool table place (sym (ap (λ (used : List Bool). slice_index_or used place true) is.used_are) ∙ unused) in
-    free_by held.sectors held.pages pool table blocks place at.0 at.1
+-- what a pool in memory doesn't use is free where it is what stands
+pub unused_free : (image : Image) (held : Held) (s : Standing) → StandsOver image held s → (place : ℕ)
+    → slice_index_or held.used place true ≡ false → IsFree s place 1
+unused_free image held s over place unused =
+    let used_are : held.used ≡ used_sectors s.sectors s.pages s.pool s.table =
+    over.is_held.used_are ∙ (λ i. used_sectors (over.sectors i) (over.pages i) s.pool s.table) in
+    let at = unused_at s.sectors s.pages s.pool s.table place (sym (ap (λ (used : List Bool). slice_index_or used place true) used_are) ∙ unused) in
+    free_by s place at.0 at.1
 
 -- ---- The first free places
 
 -- none of the places that were found is used
 pub found_unused : (used : List Bool) (wanted : ℕ) (places : List ℕ) → AreFirstFree used wanted places → AllByRecursion (λ place. slice_index_or used place true ≡ false) places
 found_unused used wanted places found = all_from (IsFreeSector used) (λ place. slice_index_or used place true ≡ false) (λ place is. is.free true) places (found-free used wanted places found)
-
--- each of them lies behind the ring and on the disk
-pub found_within : (image : Image) (held : Held) (pool : Pool) (table : TableState) → IsHeld image held pool table → (wanted : ℕ) (places : List ℕ) → AreFirstFree held.used wanted places
-    → AllByRecursion (λ place. (32 ≤ place) × (place < held.sectors)) places
-found_within image held pool table is wanted places found =
-    all_from (λ place. slice_index_or held.used place true ≡ false) (λ place. (32 ≤ place) × (place < held.sectors)) (λ place unused. within place (unused_free image held pool table is (λ at. []) place unused)) places (found_unused held.used wanted places found)
-  where
-    within : (place : ℕ) → IsFree held.sectors held.pages (record { pool = pool; table = table; blocks = λ at. [] }) place 1 → (32 ≤ place) × (place < held.sectors)
-    within place free = (free.unnamed.start, omega (arith, free.end))
 
 module _ {X : Type 0} (R : X → X → Type 0) where
   pairs_front : (xs ys : List X) → Pairwise R (xs ++ ys) → Pairwise R xs
@@ -125,11 +126,13 @@ fresh_runs is_free places free apart = record { free = each places free; apart =
     pairs (p ∷ ps) all = (behind p ps all.0, pairs ps all.1)
 
 -- the places that were found are fresh together, and so is each front of them
-pub found_fresh : (image : Image) (held : Held) (pool : Pool) (table : TableState) → IsHeld image held pool table → (blocks : ℕ → List ℕ) (wanted : ℕ) (places : List ℕ) → AreFirstFree held.used wanted places → (count : ℕ)
-    → AreFresh (IsFree held.sectors held.pages (record { pool = pool; table = table; blocks = blocks })) (map (λ place. (place, 1)) (take count places))
-found_fresh image held pool table is blocks wanted places found count =
-    fresh_runs (IsFree held.sectors held.pages (record { pool = pool; table = table; blocks = blocks })) (take count places)
-    (all_from (λ place. slice_index_or held.used place true ≡ false) (λ place. IsFree held.sectors held.pages (record { pool = pool; table = table; blocks = blocks }) place 1) (λ place unused. unused_free image held pool table is blocks place unused)
+pub found_fresh : (image : Image) (held : Held) (s : Standing) → StandsOver image held s → (wanted : ℕ) (places : List ℕ)
+    → AreFirstFree held.used wanted places → (count : ℕ) → AreFresh (IsFree s) (map (λ place. (place, 1)) (take count places))
+found_fresh image held s over wanted places found count =
+    fresh_runs (IsFree s) (take count places)
+    (all_from (λ place. slice_index_or held.used place true ≡ false) (λ place. IsFree s place 1)
+    (λ place unused. unused_free image held s over place unused)
     (take count places) (all_take (λ place. slice_index_or held.used place true ≡ false) count places (found_unused held.used wanted places found)))
     (pairs_front (λ a b. IsApart a 1 b 1) (take count places) (drop count places)
-    (subst (Pairwise (λ a b. IsApart a 1 b 1)) (sym (take-append-drop count places)) (distinct_apart places (found-distinct held.used wanted places found))))
+    (subst (Pairwise (λ a b. IsApart a 1 b 1)) (sym (take-append-drop count places))
+    (distinct_apart places (found-distinct held.used wanted places found))))

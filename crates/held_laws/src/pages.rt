@@ -3,7 +3,7 @@
 ghost use Rattle.std.specs.Prelude.{◌≡◌, ◌+◌, ◌<◌, ◌≤◌, ℕ, List, length};
 ghost use Rattle.std.specs.List.{AllByRecursion};
 ghost use Rattle.disk_model.specs.Images.{Image};
-ghost use Rattle.pool_model.specs.Group.{Standing, IsUnnamed, ArePages};
+ghost use Rattle.pool_model.specs.Group.{IsUnnamed};
 ghost use Rattle.pool_model.specs.Pool.{Pool, Pairwise, IsApart};
 ghost use Rattle.pool_model.specs.Space.{chain_pages, image_pages};
 ghost use Rattle.pool_model.specs.Table.{TableState};
@@ -18,7 +18,7 @@ pub fn pages_have_their_sectors()
     ensures apart { (image : Image) (held : Held) (pool : Pool) (table : TableState) → IsHeld image held pool table → Pairwise (λ a b. IsApart a 1 b 1) held.pages }
     ensures within { (image : Image) (held : Held) (pool : Pool) (table : TableState) → IsHeld image held pool table → AllByRecursion (λ page. page < held.sectors) held.pages }
     ensures unnamed { (image : Image) (held : Held) (pool : Pool) (table : TableState) → IsHeld image held pool table → (blocks : ℕ → List ℕ)
-        → AllByRecursion (λ page. IsUnnamed (record { pool = pool; table = table; blocks = blocks }) page 1) held.pages }
+        → AllByRecursion (λ page. IsUnnamed (record { pool = pool; table = table; blocks = blocks; sectors = held.sectors; pages = held.pages }) page 1) held.pages }
     ensures enough { (image : Image) (held : Held) (pool : Pool) (table : TableState) → IsHeld image held pool table → image_pages pool table ≤ length held.pages }
 {}
 
@@ -30,13 +30,13 @@ pub fn pages_by_the_seal()
         → length held.pages + chain_pages (length table.active) + chain_pages (length table.flush) ≡ image_pages pool table + chain_pages state.seal.active_changes + chain_pages state.seal.flushing_changes }
 {}
 
-/// The pages of a pool in memory are the pages of its image, where the seal counts the changes that the
-/// table has. So it is where the image keeps the table as a sync writes it.
+/// The pages of a pool in memory are as many as its image takes, where the seal counts the changes that
+/// the table has. So it is where the image keeps the table as a sync writes it.
 pub fn pages_are_the_images()
-    ensures by_seal { (image : Image) (held : Held) (pool : Pool) (table : TableState) → IsHeld image held pool table → (s : Standing) → s.pool ≡ pool → s.table ≡ table
-        → (tag : ℕ) (state : StandsFor tag image pool table) → state.seal.active_changes ≡ length table.active → state.seal.flushing_changes ≡ length table.flush
-        → ArePages held.sectors (image_pages pool table) s held.pages }
-    ensures as_written { (image : Image) (held : Held) (pool : Pool) (table : TableState) → IsHeld image held pool table → (s : Standing) → s.pool ≡ pool → s.table ≡ table
+    ensures by_seal { (image : Image) (held : Held) (pool : Pool) (table : TableState) → IsHeld image held pool table
+        → (tag : ℕ) (state : StandsFor tag image pool table) → state.seal.active_changes ≡ length table.active
+        → state.seal.flushing_changes ≡ length table.flush → length held.pages ≡ image_pages pool table }
+    ensures as_written { (image : Image) (held : Held) (pool : Pool) (table : TableState) → IsHeld image held pool table
         → (tag : ℕ) (state : StandsFor tag image pool table) (slots : List SlotRecord) (pages : List ℕ) → state.flat ≡ flat_of slots table pages
-        → ArePages held.sectors (image_pages pool table) s held.pages }
+        → length held.pages ≡ image_pages pool table }
 {}

@@ -3,6 +3,7 @@ pub mod FlatLaws
 pub mod Held
 pub mod Kept
 pub mod PagesOf
+pub mod RoomLaws
 pub mod SealBack
 pub mod SlotCounts
 pub mod SlotLaws
