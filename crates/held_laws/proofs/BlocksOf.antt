@@ -8,7 +8,7 @@ use Rattle.disk_model.proofs.Sectors.{sector_at-set, sector_at-set_other}
 use Rattle.pool_model.specs.Plain.{Stored}
 use Rattle.pool_model.specs.Pool.{Pairwise}
 use Rattle.table_state.specs.Pools.{block_sector, put_block, with_blocks}
-use Rattle.table_state.proofs.Lists.{all_from}
+use Rattle.pool_model.proofs.Lists.{all_from}
 
 -- a place that no block has keeps its sector
 pub beside_blocks : (contents : List Stored) (image : Image) (at : ℕ) → AllByRecursion (λ stored. stored.place ≢ at) contents → sector_at (with_blocks contents image) at ≡ sector_at image at

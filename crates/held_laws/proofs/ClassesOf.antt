@@ -14,9 +14,9 @@ use Rattle.pool_model.specs.Pool.{Pairwise}
 use Rattle.pool_model.specs.Table.{entry_at}
 use Rattle.table_state.specs.Flat.{Flat, HoldTogether, table_in}
 use Rattle.table_state.specs.Tables.{unique_in, duplicate_in}
-use Rattle.table_state.proofs.Lists.{all_from, all_missed, filter_whole, pairs_from}
-use Rattle.table_state.proofs.Sorted.{IsPut, all_put}
-use Rattle.table_state.proofs.TablePuts.{entries_put, apart_by_order}
+use Rattle.pool_model.proofs.Lists.{all_from, all_missed, filter_whole, pairs_from}
+use Rattle.pool_model.proofs.Sorted.{IsPut, all_put}
+use Rattle.pool_model.proofs.TablePuts.{entries_put, apart_by_order}
 use Rattle.held_laws.proofs.Members.{clash, all_swapped}
 
 -- ---- New keys that are put in

@@ -10,7 +10,7 @@ use Rattle.ddt_entry.proofs.KeyLaws.{key_eq-same, key_eq-symm}
 use Rattle.pool_model.specs.Pool.{Pool, Pointer, Mark, plain, tracked, loose, IsApart, run_length, is_tracked, since_of, tracks, tracked_at, SharesHome, GoTogether, IsWellFormed}
 use Rattle.pool_model.specs.Table.{TableState, found, counted, home_of_pointers}
 use Rattle.table_state.specs.Flat.{mark_by, mark_of}
-use Rattle.table_state.proofs.Lists.{all_from}
+use Rattle.pool_model.proofs.Lists.{all_from}
 use Rattle.held_laws.specs.Slots.{kind_of}
 use Rattle.held_laws.proofs.Members.{In, clash, each_in, at_in, pair_in, in_filter, in_unfiltered, passed_in}
 

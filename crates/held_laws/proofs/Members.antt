@@ -2,7 +2,7 @@
 use Rattle.std.proofs.Common.{◌≡◌, Bool, true, false, cond, ◌⊎◌, inl, inr, ⊎_elim, List, [], ◌∷◌, filter, map, refl, sym, ap, subst, ◌∙◌}
 use Rattle.std.specs.List.{AllByRecursion}
 use Rattle.pool_model.specs.Pool.{Pairwise}
-use Rattle.table_state.proofs.Lists.{all_from, all_tested}
+use Rattle.pool_model.proofs.Lists.{all_from, all_tested}
 
 -- a test doesn't answer both
 pub clash : (b : Bool) → b ≡ true → b ≡ false → ⊥

@@ -24,7 +24,7 @@ use Rattle.table_state.specs.Tables.{unique_in, duplicate_in, table_pages}
 use Rattle.table_state.specs.declared.slot_record.SlotRecord.{SlotRecord}
 use Rattle.ddt_entry.specs.Records.{IsKeyLength}
 use Rattle.table_state.proofs.Kept.{pages_behind}
-use Rattle.table_state.proofs.Lists.{all_from, all_from_both}
+use Rattle.pool_model.proofs.Lists.{all_from, all_from_both}
 use Rattle.table_state.proofs.PagesOf.{pages_named, pages_within_named}
 use Rattle.table_state.proofs.UsedLaws.{pointer_runs, waiting_runs, slot_lengths}
 use Rattle.held_laws.proofs.ClassesOf.{as_many_unique, as_many_duplicate}

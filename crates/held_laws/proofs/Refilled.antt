@@ -11,7 +11,7 @@ use Rattle.pool_model.specs.Table.{TableState, found, counted, home_of_pointers,
 use Rattle.table_state.specs.Flat.{mark_of, pointer_of}
 use Rattle.table_state.specs.Pools.{with_blocks, pool_after}
 use Rattle.table_state.specs.declared.slot_record.SlotRecord.{SlotRecord}
-use Rattle.table_state.proofs.Lists.{all_from}
+use Rattle.pool_model.proofs.Lists.{all_from}
 use Rattle.held_laws.specs.Slots.{kind_of, slot_of, refilled, refilled_pool}
 use Rattle.held_laws.proofs.MarksOf.{marks_stand}
 use Rattle.held_laws.proofs.Members.{all_kept, pairs_kept}

@@ -14,20 +14,19 @@ use Rattle.ddt_entry.specs.declared.record.Malformed.{Malformed}
 use Rattle.disk_model.specs.Images.{Image}
 use Rattle.uber_ring.specs.declared.seal.Seal.{Seal}
 use Rattle.pool_model.specs.Pool.{Pool, Pointer, Pairwise}
-use Rattle.pool_model.specs.Table.{TableState, change_at}
+use Rattle.pool_model.specs.Table.{TableState, change_at, is_past}
 use Rattle.table_state.specs.SealForms.{is_formed, has_group, has_size, has_flags, has_modes, has_checkpoint, fewest_sectors, most_sectors, last_group, checkpoint_in}
-use Rattle.table_state.specs.SlotRecords.{is_slot, in_range, slot_at, slot_in, kind_said, kind_at}
-use Rattle.table_state.specs.SlotRecords.{slot_of as slot_said}
-use Rattle.table_state.specs.Flat.{Flat, IsRead, table_in, pointer_of, last_changes, is_past, is_missing, stands_before}
+use Rattle.table_state.specs.SlotRecords.{is_slot, in_range, slot_at, slot_in, kind_said, kind_at, slot_of as slot_said}
+use Rattle.table_state.specs.Flat.{Flat, IsRead, table_in, pointer_of, last_changes, is_missing, stands_before}
 use Rattle.table_state.specs.Pools.{Held, IsHeld}
 use Rattle.table_state.specs.Sound.{IsSound, HasKeyLengths, HasLength}
 use Rattle.table_state.specs.Tables.{IsTableWithin}
 use Rattle.table_state.specs.declared.slot_record.SlotRecord.{SlotRecord}
-use Rattle.table_state.proofs.Lists.{all_filter}
+use Rattle.pool_model.proofs.Lists.{all_filter}
 use Rattle.table_state.proofs.SlotCounts.{counts_held}
-use Rattle.table_state.proofs.Sorted.{all_fold}
+use Rattle.pool_model.proofs.Sorted.{all_fold}
 use Rattle.table_state.proofs.TableBack.{table_in_within}
-use Rattle.table_state.proofs.TablePuts.{entries_put, changes_put}
+use Rattle.pool_model.proofs.TablePuts.{entries_put, changes_put}
 use Rattle.table_state.proofs.UsedLaws.{length-used_sectors, ring_is_used, slot_lengths}
 
 -- ---- What records spell

@@ -8,15 +8,14 @@ use Rattle.std.proofs.lemmas.List.FromFn.{get_or-map-range_with_len}
 use Rattle.ddt_entry.specs.declared.entry.Entry.{Entry}
 use Rattle.disk_model.specs.Images.{Image}
 use Rattle.grant_book.specs.Sectors.{AreFirstFree}
-use Rattle.grant_book.proofs.FreeLaws.{found-free, found-distinct}
-use Rattle.grant_book.proofs.FreeLaws.{IsFree as IsFreeSector}
+use Rattle.grant_book.proofs.FreeLaws.{found-free, found-distinct, IsFree as IsFreeSector}
 use Rattle.pool_model.specs.Pool.{Pool, Pointer, Pairwise, IsApart, run_length}
 use Rattle.pool_model.specs.Space.{is_used, lies_in, used_sectors}
 use Rattle.pool_model.specs.Table.{TableState, waiting_in}
 use Rattle.pool_model.specs.Group.{Standing, IsFree, AreFresh}
 use Rattle.table_state.specs.Holding.{StandsOver}
 use Rattle.table_state.specs.Pools.{Held}
-use Rattle.table_state.proofs.Lists.{all_from, all_front, all_take}
+use Rattle.pool_model.proofs.Lists.{all_from, all_front, all_take}
 use Rattle.table_state.proofs.UsedLaws.{length-used_sectors}
 use Rattle.held_laws.proofs.Members.{clash}
 

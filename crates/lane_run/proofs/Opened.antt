@@ -9,9 +9,9 @@ use Rattle.ddt_entry.specs.declared.entry.Entry.{Entry}
 use Rattle.ddt_entry.specs.Records.{IsKeyLength}
 use Rattle.disk_model.specs.Images.{Image}
 use Rattle.pool_model.specs.Pool.{Pool, Pointer, LiesWithin, IsApart, run_length, is_at, tracks, keys_in}
-use Rattle.pool_model.specs.Table.{TableState, found}
+use Rattle.pool_model.specs.Table.{TableState, found, counted_homes}
 use Rattle.pool_model.specs.Group.{Standing, opening_of, opened}
-use Rattle.table_state.specs.Flat.{counted_homes, pointer_of, table_in}
+use Rattle.table_state.specs.Flat.{pointer_of, table_in}
 use Rattle.table_state.specs.Pools.{Held, is_slot_at}
 use Rattle.table_state.specs.declared.slot_record.SlotRecord.{SlotRecord}
 use Rattle.table_state.proofs.UsedLaws.{one_sector}
@@ -20,11 +20,11 @@ use Rattle.held_laws.proofs.Members.{In, each_in, at_in}
 use Rattle.held_laws.proofs.SlotsOf.{held_slots}
 use Rattle.held_laws.proofs.SoundOf.{pointer_lengths}
 use Rattle.held_laws.proofs.UnusedOf.{unused_free}
-use Rattle.table_laws.proofs.Keys.{keys_are_counted_homes}
-use Rattle.pool_model.proofs.Pointers.{all_from_both}
+use Rattle.pool_model.proofs.Keys.{keys_are_counted_homes}
 use Rattle.pool_model.proofs.Homes.{matched_home}
 use Rattle.pool_model.proofs.Putting.{home_of-known}
 use Rattle.table_state.specs.Holding.{StandsOver}
+use Rattle.pool_model.proofs.Lists.{all_from_both}
 use Rattle.lane_run.specs.Going.{IsCourse, IsPlaced, Stands}
 use Rattle.lane_run.specs.Live.{Live}
 use Rattle.lane_run.proofs.Places.{used_either}

@@ -12,8 +12,9 @@ use Rattle.pool_model.proofs.Pointers.{all_insert, none_insert, filter_insert, a
 use Rattle.pool_model.proofs.Homes.{left_after, home_now, home_now-later, matched_home}
 use Rattle.pool_model.proofs.Keeping.{Waits, IsOpen, IsKept, waited}
 use Rattle.pool_model.proofs.Joining.{Beside, first_beside}
-use Rattle.pool_model.proofs.Removing.{HasHome, has_now, has_within, has_open, has_apart, SameHome, taken_same, waited_or_lost, all_filter}
+use Rattle.pool_model.proofs.Removing.{HasHome, has_now, has_within, has_open, has_apart, SameHome, taken_same, waited_or_lost}
 use Rattle.pool_model.proofs.Courses.{kept_opened}
+use Rattle.pool_model.proofs.Lists.{all_filter}
 
 -- the homes that a group finds: made by groups before it, apart from each other, and from what it may give out
 pub record AreBefore (sectors number : ℕ) (unnamed : (place length : ℕ) → Type 0) (before : Key → Option Home) : Type 0 where

@@ -7,11 +7,12 @@ use Rattle.pool_model.specs.Pool.{Pool, Pointer, IsApart, LiesWithin, IsWellForm
 use Rattle.pool_model.specs.Table.{counted, home_of_pointers, found}
 use Rattle.pool_model.specs.Command.{Opening, Course, last_tracked}
 use Rattle.pool_model.specs.ByKey.{MatchesByKey, IsUnnamedByKey, AreFreshByKey, is_touched}
-use Rattle.pool_model.proofs.Pointers.{all_from, none_insert, filter_insert}
+use Rattle.pool_model.proofs.Pointers.{none_insert, filter_insert}
 use Rattle.pool_model.proofs.Homes.{left_by, left_after, home_now, left_by-later, home_now-later, left_now, first_now, none_now, uncounted_zero}
 use Rattle.pool_model.proofs.Keeping.{Waits, IsUngiven, IsKept, CanJoin, put_kept}
 use Rattle.pool_model.proofs.Joining.{given_longer, fresh_joins, plain_alone, first_alone, waiting_joins, shared_joins}
 use Rattle.pool_model.proofs.Putting.{left_of, home_of, IsPut, IsAlone, uncounted, unshared, IsAtHome, Step, stood, put_fresh, put_home}
+use Rattle.pool_model.proofs.Lists.{all_from}
 
 -- of runs of which none shares a sector with another, the last one doesn't, nor do the others
 pub fresh_last : (unnamed : (place length : ℕ) → Type 0) (given : List (ℕ × ℕ)) (place length : ℕ) → AreFreshByKey unnamed (given ++ (place, length) ∷ []) → AreFreshByKey unnamed given × unnamed place length × IsUngiven given place length

@@ -7,8 +7,9 @@ use Rattle.ddt_entry.specs.Keys.{key_eq}
 use Rattle.ddt_entry.proofs.KeyLaws.{key_eq-true, key_eq-same}
 use Rattle.pool_model.specs.Pool.{Pointer, Pairwise, IsApart, GoTogether, SharesHome, LiesWithin, run_length, is_tracked, is_shared, is_at, tracks}
 use Rattle.pool_model.specs.Table.{IsApartFrom}
-use Rattle.pool_model.proofs.Pointers.{all_from, all_from_both, all_fail, all_unfound, first_has, apart_turned, shared_tracks, tracks-key, is_shared-symm}
+use Rattle.pool_model.proofs.Pointers.{all_fail, first_has, apart_turned, shared_tracks, tracks-key, is_shared-symm}
 use Rattle.pool_model.proofs.Keeping.{Waits, IsUngiven, IsKept, CanJoin}
+use Rattle.pool_model.proofs.Lists.{all_from, all_from_both, all_missed}
 
 -- the last run that was given out
 last_given : (given : List (ℕ × ℕ)) (place length a n : ℕ) → IsUngiven (given ++ (place, length) ∷ []) a n → IsUngiven given a n × IsApart place length a n
@@ -37,7 +38,7 @@ fresh_joins sectors number unnamed given ps left p inside kept empty alone born 
     let opens = kept.opens p.place (run_length p.key) is ungiven in
     let ends = inside p.place (run_length p.key) is in
     let slots_alone : AllByRecursion (λ q. (is_at p.lane p.slot q ≡ false) × (is_shared p q ≡ false)) ps =
-    all_from_both (λ q. is_at p.lane p.slot q ≡ false) (λ q. is_shared p q ≡ false) (λ q. (is_at p.lane p.slot q ≡ false) × (is_shared p q ≡ false)) (λ q a b. (a, b)) ps (all_unfound (is_at p.lane p.slot) ps empty) alone in
+    all_from_both (λ q. is_at p.lane p.slot q ≡ false) (λ q. is_shared p q ≡ false) (λ q. (is_at p.lane p.slot q ≡ false) × (is_shared p q ≡ false)) (λ q a b. (a, b)) ps (all_missed (is_at p.lane p.slot) ps empty) alone in
     record {
       together = all_from_both (λ q. (is_at p.lane p.slot q ≡ false) × (is_shared p q ≡ false)) (λ q. IsApart p.place (run_length p.key) q.place (run_length q.key)) (GoTogether p)
           (λ q both apart. alone_together p q both.0 both.1 apart) ps slots_alone opens.pointers;
@@ -63,7 +64,7 @@ pub waiting_joins : (sectors number : ℕ) (unnamed : (place length : ℕ) → T
 waiting_joins sectors number unnamed given ps left p home kept empty counts place birth waits =
     let inside = kept.homes_within p.key home waits in
     let slots_alone : AllByRecursion (λ q. (is_at p.lane p.slot q ≡ false) × (is_shared p q ≡ false)) ps =
-    all_from_both (λ q. is_at p.lane p.slot q ≡ false) (λ q. is_shared p q ≡ false) (λ q. (is_at p.lane p.slot q ≡ false) × (is_shared p q ≡ false)) (λ q a b. (a, b)) ps (all_unfound (is_at p.lane p.slot) ps empty) (first_alone p ps counts waits.none) in
+    all_from_both (λ q. is_at p.lane p.slot q ≡ false) (λ q. is_shared p q ≡ false) (λ q. (is_at p.lane p.slot q ≡ false) × (is_shared p q ≡ false)) (λ q a b. (a, b)) ps (all_missed (is_at p.lane p.slot) ps empty) (first_alone p ps counts waits.none) in
     record {
       together = all_from_both (λ q. (is_at p.lane p.slot q ≡ false) × (is_shared p q ≡ false)) (IsApartFrom (record { key = p.key; home = home })) (GoTogether p)
           (λ q both apart. alone_together p q both.0 both.1 (rw place apart)) ps slots_alone (kept.waiting p.key home waits);
@@ -127,7 +128,7 @@ shared_joins sectors number unnamed given ps left p q rest kept empty counts fir
     let inside = (first_has (LiesWithin sectors number) (tracks p.key) ps q rest first kept.within) in
     let key_is : q.key ≡ p.key = (tracks-key p.key q inside.1).1 in
     record {
-      together = all_from_both (λ r. is_at p.lane p.slot r ≡ false) (Beside p.key q) (GoTogether p) (λ r slots beside. joined r key_is slots beside) ps (all_unfound (is_at p.lane p.slot) ps empty) (first_beside p.key ps q rest kept.pairs first);
+      together = all_from_both (λ r. is_at p.lane p.slot r ≡ false) (Beside p.key q) (GoTogether p) (λ r slots beside. joined r key_is slots beside) ps (all_missed (is_at p.lane p.slot) ps empty) (first_beside p.key ps q rest kept.pairs first);
       within = record { start = rw shares.place (inside.0.start); end = rw (shares.place, sym key_is) (inside.0.end); birth = rw shares.birth (inside.0.birth) };
       apart = λ key home waits differs. rw (shares.place, sym key_is) ((first_has (IsApartFrom (record { key = key; home = home })) (tracks p.key) ps q rest first (kept.waiting key home waits)).0);
       opens = λ a n named ungiven. rw (shares.place, sym key_is) ((first_has (λ r. IsApart a n r.place (run_length r.key)) (tracks p.key) ps q rest first (kept.opens a n named ungiven).pointers).0);

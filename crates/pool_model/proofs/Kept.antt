@@ -1,5 +1,5 @@
 -- The premise on clashes after a group: a content that has no other of its key before the group has none after it.
-use Rattle.std.proofs.Common.{◌≡◌, ℕ, Bool, true, false, cond, List, [], ◌∷◌, Some, inl, ⊎_elim, map, refl, sym, ap, ◌∙◌}
+use Rattle.std.proofs.Common.{◌≡◌, ℕ, Bool, true, false, cond, List, [], ◌∷◌, Some, inl, ⊎_elim, map, sym, ap, ◌∙◌}
 use Rattle.std.specs.Prelude.{take, ◌&&◌, ◌⊎◌}
 use Rattle.std.specs.List.{AllByRecursion, list_any}
 use Rattle.ddt_entry.specs.Keys.{Keying, key_eq}
@@ -14,8 +14,8 @@ use Rattle.pool_model.specs.Group.{Standing, lanes_in_turn}
 use Rattle.pool_model.specs.Run.{sealed_standing}
 use Rattle.pool_model.specs.Clash.{NoOther, HasNoOther, contents_in, group_contents}
 use Rattle.pool_model.specs.Waiting.{IsIn, AreAmong, WaitedBefore, WaitingStays, WaitsByPointer, WaitingComes}
-use Rattle.pool_model.proofs.Clashes.{all_from, all_at, all_in, among_all}
 use Rattle.pool_model.proofs.Made.{MadeFor, group_makes}
+use Rattle.pool_model.proofs.Lists.{all_from, all_at, all_in, among_all}
 
 -- where the key is this waiting home's, the content is its block's bytes
 abbrev NoOtherThere : (List ℕ → Key) → (ℕ → List ℕ) → List ℕ → Entry → Type 0
@@ -102,8 +102,3 @@ waiting_stays s after waits were waited =
     all_from (λ (e : Entry). (found after.table e.key ≡ Some e.home) × (e.home.count ≡ 0)) (WaitedBefore s after)
     (λ e there. (waited e.key e.home (were e.key e.home there.0 there.1).0 there.1, (were e.key e.home there.0 there.1).1))
     (waiting_in after.table) waits
-
--- what is found without pointers is among those that wait, where all that holds of these holds of it
-pub waited_by : (table : TableState) (key : Key) (home : Home) → ((P : Entry → Type 0) → AllByRecursion P (waiting_in table) → P (record { key = key; home = home }))
-    → IsIn (record { key = key; home = home }) (waiting_in table)
-waited_by table key home from = from (λ e. IsIn e (waiting_in table)) (all_in (waiting_in table))

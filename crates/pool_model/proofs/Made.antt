@@ -1,5 +1,5 @@
 -- The pointers that a group of lanes' commands leaves: those from before, and those of the contents that it writes.
-use Rattle.std.proofs.Common.{ℕ, Bool, true, false, cond, not, List, [], ◌∷◌, Option, Some, None, filter, map, fold}
+use Rattle.std.proofs.Common.{ℕ, Bool, true, false, cond, not, List, [], ◌∷◌, Option, Some, None, map, fold}
 use Rattle.std.specs.List.{AllByRecursion, flat_map, zip}
 use Rattle.ddt_entry.specs.Keys.{Keying}
 use Rattle.ddt_entry.specs.declared.key.Key.{Key}
@@ -10,16 +10,7 @@ use Rattle.pool_model.specs.Command.{Opening, Turn, Course, Spot, nowhere, at_ho
 use Rattle.pool_model.specs.Group.{Standing, opening_of, opened, fresh_of, tasks_of, turns_of, lane_by_lane, lanes_in_turn}
 use Rattle.pool_model.specs.Run.{noted_course}
 use Rattle.pool_model.specs.Clash.{written_by, contents_in}
-use Rattle.pool_model.proofs.Clashes.{all_left, all_right, all_both}
-
-module _ {X : Type 0} where
-  passed : (P : X → Type 0) (b : Bool) (x : X) (rest : List X) → P x → AllByRecursion P rest → AllByRecursion P (cond b (x ∷ rest) rest)
-  passed P true x rest here all = (here, all)
-  passed P false x rest here all = all
-
-  all_filter : (P : X → Type 0) (test : X → Bool) (xs : List X) → AllByRecursion P xs → AllByRecursion P (filter test xs)
-  all_filter P test [] all = tt
-  all_filter P test (x ∷ xs) all = passed P (test x) x (filter test xs) all.0 (all_filter P test xs all.1)
+use Rattle.pool_model.proofs.Lists.{all_filter, all_front, all_back, all_both}
 
 -- each pointer that a command makes for this content
 abbrev pub MadeFor : (Pointer → Type 0) → (List ℕ → Key) → List ℕ → Type 0
@@ -95,7 +86,7 @@ module _ (R : Task → Type 0) where
 pub contents_each : (P : List ℕ → Type 0) (tasks : List Task) → AllByRecursion P (contents_in tasks) → AllByRecursion (λ (task : Task). AllByRecursion P (written_by task.act)) tasks
 contents_each P [] all = tt
 contents_each P (task ∷ tasks) all =
-    (all_left P (written_by task.act) (contents_in tasks) all, contents_each P tasks (all_right P (written_by task.act) (contents_in tasks) all))
+    (all_front P (written_by task.act) (contents_in tasks) all, contents_each P tasks (all_back P (written_by task.act) (contents_in tasks) all))
 
 -- each pointer that a group of lanes' commands leaves was there before, or was made for a content that it writes
 pub group_makes : (Q : Pointer → Type 0) (keying : Keying) (s : Standing) (moment : ℕ) (tasks : List Task) (told : Told)

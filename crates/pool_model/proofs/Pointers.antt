@@ -1,20 +1,11 @@
 -- Lists of pointers: what an insertion in order keeps, and what a filter tells of the elements.
-use Rattle.std.proofs.Common.{◌≡◌, ℕ, Bool, true, false, cond, ◌&&◌, ◌==◌, List, [], ◌∷◌, filter, Some, None, inl, inr, refl, sym, ap, subst, ◌∙◌, arith}
-use Rattle.std.specs.List.{AllByRecursion, find}
+use Rattle.std.proofs.Common.{◌≡◌, ℕ, Bool, true, false, cond, ◌&&◌, ◌==◌, List, [], ◌∷◌, filter, inl, inr, refl, sym, ap, subst, ◌∙◌, arith}
+use Rattle.std.specs.List.{AllByRecursion}
 use Rattle.std.proofs.lemmas.Bool.Decides.{nat_tests}
 use Rattle.ddt_entry.specs.declared.key.Key.{Key}
 use Rattle.ddt_entry.specs.Keys.{key_eq}
 use Rattle.ddt_entry.proofs.KeyLaws.{key_eq-symm, key_eq-true}
 use Rattle.pool_model.specs.Pool.{Pointer, Pairwise, IsApart, GoTogether, SharesHome, run_length, is_tracked, is_shared, tracks, comes_before, insert_pointer}
-
--- what holds of each holds of each in another sense
-pub all_from : {X : Type 0} (P Q : X → Type 0) → ((x : X) → P x → Q x) → (xs : List X) → AllByRecursion P xs → AllByRecursion Q xs
-all_from P Q leads [] all = tt
-all_from P Q leads (x ∷ xs) all = (leads x all.0, all_from P Q leads xs all.1)
-
-pub all_from_both : {X : Type 0} (P Q R : X → Type 0) → ((x : X) → P x → Q x → R x) → (xs : List X) → AllByRecursion P xs → AllByRecursion Q xs → AllByRecursion R xs
-all_from_both P Q R leads [] all other = tt
-all_from_both P Q R leads (x ∷ xs) all other = (leads x all.0 other.0, all_from_both P Q R leads xs all.1 other.1)
 
 -- what each pointer has, an inserted one too, each pointer of the longer list has
 pub all_insert : (P : Pointer → Type 0) (p : Pointer) (ps : List Pointer) → P p → AllByRecursion P ps → AllByRecursion P (insert_pointer p ps)
@@ -49,11 +40,6 @@ pub all_fail : (test : Pointer → Bool) (ps : List Pointer) → filter test ps 
 all_fail test [] none = tt
 all_fail test (q ∷ qs) none =
     elim (test q) as (λ b. cond b (q ∷ filter test qs) (filter test qs) ≡ [] → (b ≡ false) × AllByRecursion (λ r. test r ≡ false) qs) [ true ↦ λ e. absurd (cc e) | false ↦ λ e. (refl, all_fail test qs e) ] none
-
-pub all_unfound : (test : Pointer → Bool) (ps : List Pointer) → find test ps ≡ None → AllByRecursion (λ q. test q ≡ false) ps
-all_unfound test [] none = tt
-all_unfound test (q ∷ qs) none =
-    elim (test q) as (λ b. cond b (Some q) (find test qs) ≡ None → (b ≡ false) × AllByRecursion (λ r. test r ≡ false) qs) [ true ↦ λ e. absurd (cc e) | false ↦ λ e. (refl, all_unfound test qs e) ] none
 
 -- the first that passes has what each has
 pub first_has : (P : Pointer → Type 0) (test : Pointer → Bool) (ps : List Pointer) (q : Pointer) (rest : List Pointer) → filter test ps ≡ q ∷ rest → AllByRecursion P ps → P q × (test q ≡ true)

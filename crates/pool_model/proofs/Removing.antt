@@ -9,19 +9,11 @@ use Rattle.ddt_entry.proofs.KeyLaws.{key_eq-symm}
 use Rattle.pool_model.specs.Pool.{Pointer, Pairwise, IsApart, GoTogether, SharesHome, LiesWithin, run_length, is_tracked, is_at, tracks}
 use Rattle.pool_model.specs.Table.{counted, IsApartFrom}
 use Rattle.pool_model.specs.Command.{home_at}
-use Rattle.pool_model.proofs.Pointers.{all_from, all_from_both, all_fail, first_has, apart_turned, tracks-key}
+use Rattle.pool_model.proofs.Pointers.{all_fail, first_has, apart_turned, tracks-key}
 use Rattle.pool_model.proofs.Homes.{left_after, home_now}
 use Rattle.pool_model.proofs.Keeping.{Waits, IsOpen, HomeWithin, IsKept}
 use Rattle.pool_model.proofs.Joining.{Beside, first_beside}
-
-pub all_filter : (P : Pointer → Type 0) (test : Pointer → Bool) (ps : List Pointer) → AllByRecursion P ps → AllByRecursion P (filter test ps)
-all_filter P test [] all = tt
-all_filter P test (p ∷ ps) all = elim (test p) as (λ b. AllByRecursion P (cond b (p ∷ filter test ps) (filter test ps))) [ true ↦ (all.0, all_filter P test ps all.1) | false ↦ all_filter P test ps all.1 ]
-
-pairs_filter : (R : Pointer → Pointer → Type 0) (test : Pointer → Bool) (ps : List Pointer) → Pairwise R ps → Pairwise R (filter test ps)
-pairs_filter R test [] pairs = tt
-pairs_filter R test (p ∷ ps) pairs =
-    elim (test p) as (λ b. Pairwise R (cond b (p ∷ filter test ps) (filter test ps))) [ true ↦ (all_filter (R p) test ps pairs.0, pairs_filter R test ps pairs.1) | false ↦ pairs_filter R test ps pairs.1 ]
+use Rattle.pool_model.proofs.Lists.{all_filter, pairs_filter, filter_whole, all_from, all_from_both}
 
 -- a home that a key has: one that waits, or that of its first counted pointer
 pub data HasHome (ps : List Pointer) (left : Key → Option Home) (key : Key) (home : Home) : Type 0 where
@@ -142,14 +134,10 @@ module _ (test : Pointer → Bool) (ps : List Pointer) (left later : Key → Opt
           let at_birth : r.birth ≡ home.birth = cc now in
           record { was = home_at q (length (q ∷ rest)); is = refl; place = sym (shares.place ∙ at_place); birth = sym (shares.birth ∙ at_birth) }
 
--- where the pointer that a slot holds isn't counted under a key, those that are stay
-filter_whole : (test : Pointer → Bool) (ps : List Pointer) → AllByRecursion (λ q. test q ≡ true) ps → filter test ps ≡ ps
-filter_whole test [] all = refl
-filter_whole test (p ∷ ps) all = ap (λ b. cond b (p ∷ filter test ps) (filter test ps)) all.0 ∙ ap (λ l. p ∷ l) (filter_whole test ps all.1)
-
 elsewhere : (lane slot : ℕ) (p q : Pointer) → is_at lane slot p ≡ true → is_at p.lane p.slot q ≡ false → is_at lane slot q ≡ false
 elsewhere lane slot p q here apart = grind (arith, nat_tests, here, apart)
 
+-- where the pointer that a slot holds isn't counted under a key, those that are stay
 pub taken_others : (key : Key) (lane slot : ℕ) (ps : List Pointer) (p : Pointer) → Pairwise GoTogether ps → find (is_at lane slot) ps ≡ Some p → tracks key p ≡ false
     → filter (tracks key) (filter (λ q. not (is_at lane slot q)) ps) ≡ filter (tracks key) ps
 taken_others key lane slot [] p pairs there other = refl

@@ -1,5 +1,5 @@
 -- The dedup table with its two logs, as sorted lists: what it finds, and what one group's sync makes of it.
-use Rattle.std.specs.Prelude.{◌≡◌, ℕ, ◌+◌, ◌-◌, ◌/◌, ◌^◌, min, Bool, not, ◌&&◌, ◌||◌, ◌==◌, nat_lt, nat_le, List, [], ◌∷◌, length, filter, fold, take, drop, Option, Some, None, if◌then◌else◌}
+use Rattle.std.specs.Prelude.{◌≡◌, ℕ, ◌+◌, ◌-◌, ◌/◌, ◌^◌, min, Bool, true, not, ◌&&◌, ◌||◌, ◌==◌, nat_lt, nat_le, List, [], ◌∷◌, length, filter, fold, take, drop, Option, Some, None, if◌then◌else◌}
 use Rattle.std.specs.List.{AllByRecursion, find, last_or}
 use Rattle.std.specs.Option.{option_map}
 use Rattle.std.specs.Ordering.{is_eq, is_lt}
@@ -23,6 +23,19 @@ pub record TableState : Type 0 where
 abbrev pub empty_table : TableState
 empty_table = record { zap = []; flush = []; active = []; age = 0; checkpoint = None }
 
+-- keys rise from entry to entry
+abbrev pub AreRising : List Entry → Type 0
+AreRising entries = Pairwise (λ (a b : Entry). is_lt (key_cmp a.key b.key) ≡ true) entries
+
+-- and from change to change
+abbrev pub AreChangesRising : List Change → Type 0
+AreChangesRising log = Pairwise (λ (a b : Change). is_lt (key_cmp (key_in a) (key_in b)) ≡ true) log
+
+-- whether the flushing log has been flushed past a key
+abbrev pub is_past : (checkpoint : Option Key) → Key → Bool
+is_past None key = true
+is_past (Some checkpoint) key = is_lt (key_cmp checkpoint key)
+
 -- the home that a change gives its key
 abbrev pub home_in : Change → Option Home
 home_in (changes.Entry entry) = Some entry.home
@@ -33,6 +46,15 @@ entry_at key entries = option_map (λ entry. entry.home) (find (λ entry. key_eq
 
 abbrev pub change_at : Key → List Change → Option Change
 change_at key log = find (λ change. key_eq (key_in change) key) log
+
+-- each list is sorted by key, the homes of the stored table are counted, no key is in both logs, and the flushing log is behind its checkpoint
+pub record IsTable (table : TableState) : Type 0 where
+  pub zap_rising : AreRising table.zap
+  pub zap_counted : AllByRecursion (λ entry. nat_lt 0 entry.home.count ≡ true) table.zap
+  pub flush_rising : AreChangesRising table.flush
+  pub active_rising : AreChangesRising table.active
+  pub logs_apart : AllByRecursion (λ change. change_at (key_in change) table.active ≡ None) table.flush
+  pub past : AllByRecursion (λ change. is_past table.checkpoint (key_in change) ≡ true) table.flush
 
 -- a change's home, or else what stands below it
 abbrev pub found_over : Option Home → Option Change → Option Home
@@ -117,6 +139,10 @@ set_found entries (changes.Gone key) = drop_entry key entries
 
 abbrev pub entries_found : TableState → List Entry
 entries_found table = fold set_found (fold set_found table.zap table.flush) table.active
+
+-- those that are counted
+abbrev pub counted_homes : TableState → List Entry
+counted_homes table = filter (λ entry. nat_lt 0 entry.home.count) (entries_found table)
 
 -- those whose place is kept though no pointer is counted
 abbrev pub waiting_in : TableState → List Entry

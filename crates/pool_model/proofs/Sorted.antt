@@ -8,7 +8,7 @@ use Rattle.std.specs.Ordering.{is_eq, is_lt, ordering_reverse}
 use Rattle.std.specs.declared.cmp.Ordering.{Ordering}
 use Rattle.std.specs.declared.cmp.Ordering.TheVariants.{Less, Equal, Greater}
 use Rattle.pool_model.specs.Pool.{Pairwise}
-use Rattle.table_state.proofs.Lists.{all_from, all_each, all_filter, filter_whole, length-cond, length-cond_both}
+use Rattle.pool_model.proofs.Lists.{all_from, all_each, all_filter, filter_whole, length-cond, length-cond_both}
 
 -- an element is put in its key's place, by a total order in which only a key itself ties with it
 pub record IsPut {K X : Type 0} (order : K → K → Ordering) (key_of : X → K) (put : X → List X → List X) : Type 0 where

@@ -12,13 +12,11 @@ use Rattle.ddt_entry.specs.declared.entry.Entry.{Entry}
 use Rattle.ddt_entry.specs.declared.entry.Change.{Change}
 use Rattle.ddt_entry.specs.declared.entry.Change.TheVariants as changes
 use Rattle.ddt_entry.proofs.KeyLaws.{is_eq-key_cmp, key_eq-true, key_eq-same, key_eq-symm}
-use Rattle.pool_model.specs.Table.{TableState, home_in, entry_at, change_at, found_over, found, set_entry, drop_entry, set_change, drop_change, set_found, entries_found}
-use Rattle.table_state.specs.Flat.{AreRising}
-use Rattle.table_state.specs.Tables.{AreChangesRising, IsTable}
-use Rattle.table_state.proofs.Lists.{all_from, pairs_filter}
-use Rattle.table_state.proofs.Sorted.{rising_put}
-use Rattle.table_state.proofs.TablePuts.{entries_put, changes_put}
-use Rattle.table_laws.proofs.Lookups.{IsSame, at-put, at-dropped, at-above, each_at}
+use Rattle.pool_model.specs.Table.{TableState, home_in, entry_at, change_at, found_over, found, set_entry, drop_entry, set_change, drop_change, set_found, entries_found, AreRising, AreChangesRising, IsTable}
+use Rattle.pool_model.proofs.Lists.{all_from, pairs_filter}
+use Rattle.pool_model.proofs.Sorted.{rising_put}
+use Rattle.pool_model.proofs.TablePuts.{entries_put, changes_put}
+use Rattle.pool_model.proofs.Lookups.{IsSame, at-put, at-dropped, at-above, each_at}
 
 pub keys_same : IsSame key_cmp key_eq
 keys_same = record { tells = is_eq-key_cmp; exact = key_eq-true; itself = key_eq-same; back = key_eq-symm }

@@ -10,15 +10,13 @@ use Rattle.ddt_entry.specs.declared.entry.Home.{Home}
 use Rattle.ddt_entry.specs.declared.entry.Entry.{Entry}
 use Rattle.ddt_entry.specs.declared.entry.Change.{Change}
 use Rattle.ddt_entry.proofs.KeyLaws.{key_eq-true}
-use Rattle.pool_model.specs.Table.{TableState, found, sync_table, entries_found, waiting_in}
-use Rattle.table_state.specs.Flat.{AreRising}
-use Rattle.table_state.specs.Tables.{IsTable, AreChangesRising}
-use Rattle.table_state.proofs.Lists.{all_from, all_each, all_passed, pairs_filter}
-use Rattle.table_state.proofs.Syncing.{sync_keeps}
-use Rattle.table_laws.specs.Homes.{found_with}
-use Rattle.table_laws.proofs.Lookups.{found_has, find-filter}
-use Rattle.table_laws.proofs.Finding.{found-is, rising_found, each_found}
-use Rattle.table_laws.proofs.Synced.{found-synced, there_stays}
+use Rattle.pool_model.specs.Table.{TableState, found, sync_table, entries_found, waiting_in, AreRising, IsTable, AreChangesRising}
+use Rattle.pool_model.proofs.Lists.{all_from, all_each, all_passed, pairs_filter}
+use Rattle.pool_model.specs.Homes.{found_with}
+use Rattle.pool_model.proofs.Lookups.{found_has, find-filter}
+use Rattle.pool_model.proofs.Finding.{found-is, rising_found, each_found}
+use Rattle.pool_model.proofs.Synced.{found-synced, there_stays}
+use Rattle.pool_model.proofs.Syncing.{sync_keeps}
 
 abbrev pub entry_of : Key → Home → Entry
 entry_of key home = record { key = key; home = home }

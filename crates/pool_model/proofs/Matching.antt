@@ -10,15 +10,13 @@ use Rattle.ddt_entry.specs.declared.entry.Entry.{Entry}
 use Rattle.ddt_entry.specs.declared.entry.Change.{Change}
 use Rattle.ddt_entry.proofs.KeyLaws.{key_eq-same}
 use Rattle.pool_model.specs.Pool.{Pool, Pairwise, IsApart, run_length}
-use Rattle.pool_model.specs.Table.{TableState, found, sync_table, waiting_in, Matches, IsApartFrom}
-use Rattle.table_state.specs.Flat.{AreRising}
-use Rattle.table_state.specs.Tables.{IsTable, AreChangesRising}
-use Rattle.table_state.proofs.Lists.{all_from, all_from_both}
-use Rattle.table_state.proofs.Syncing.{sync_keeps}
-use Rattle.table_state.proofs.TablePuts.{apart_by_order}
-use Rattle.table_laws.specs.Homes.{found_with, HomesMatch}
-use Rattle.table_laws.proofs.Synced.{found-synced, counted_stays}
-use Rattle.table_laws.proofs.Waiting.{entry_of, waiting_found, waiting_rising, waiting_has, waiting_synced}
+use Rattle.pool_model.specs.Table.{TableState, found, sync_table, waiting_in, Matches, IsApartFrom, AreRising, IsTable, AreChangesRising}
+use Rattle.pool_model.proofs.Lists.{all_from, all_from_both}
+use Rattle.pool_model.proofs.TablePuts.{apart_by_order}
+use Rattle.pool_model.specs.Homes.{found_with, HomesMatch}
+use Rattle.pool_model.proofs.Synced.{found-synced, counted_stays}
+use Rattle.pool_model.proofs.Waiting.{entry_of, waiting_found, waiting_rising, waiting_has, waiting_synced}
+use Rattle.pool_model.proofs.Syncing.{sync_keeps}
 
 -- ---- Two of a list
 
@@ -68,13 +66,7 @@ matches_synced pool changes table is rising match =
       apart = waiting.1;
     }
 
--- as it stands
-pub matches_made : (pool : Pool) (table : TableState) → IsTable table → HomesMatch pool (found table) → Matches pool table
-matches_made pool table is match =
-    let waiting = waiting_match pool (found table) (waiting_in table) match (waiting_found table is) (waiting_rising table is) in
-    record { homes = match.homes; waiting = waiting.0; apart = waiting.1 }
-
--- and back
+-- a table that matches as it stands does by its homes
 pub matches_read : (pool : Pool) (table : TableState) → IsTable table → Matches pool table → HomesMatch pool (found table)
 matches_read pool table is match = record {
   homes = match.homes;

@@ -7,8 +7,8 @@ use Rattle.std.specs.declared.cmp.Ordering.{Ordering}
 use Rattle.std.specs.declared.cmp.Ordering.TheVariants.{Less, Equal, Greater}
 use Rattle.std.proofs.lemmas.Bool.{false≢true}
 use Rattle.pool_model.specs.Pool.{Pairwise}
-use Rattle.table_state.proofs.Lists.{all_from, all_from_both, none_found}
-use Rattle.table_state.proofs.Sorted.{IsPut, less_of}
+use Rattle.pool_model.proofs.Lists.{all_from, all_from_both, none_found}
+use Rattle.pool_model.proofs.Sorted.{IsPut, less_of}
 
 -- a test that tells whether two keys are one, as their order does
 pub record IsSame {K : Type 0} (order : K → K → Ordering) (same : K → K → Bool) : Type 0 where

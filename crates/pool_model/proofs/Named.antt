@@ -11,12 +11,11 @@ use Rattle.ddt_entry.specs.declared.key.Key.{Key}
 use Rattle.ddt_entry.specs.declared.entry.Change.{Change}
 use Rattle.ddt_entry.proofs.KeyLaws.{key_cmp_total, exact_keys, key_eq-true}
 use Rattle.pool_model.specs.Pool.{Pairwise, with_key}
-use Rattle.pool_model.specs.Table.{change_at}
-use Rattle.table_state.specs.Tables.{AreChangesRising}
-use Rattle.table_state.proofs.Sorted.{IsPut, rising_fold}
-use Rattle.table_laws.specs.Homes.{is_among, GivesOwnChanges}
-use Rattle.table_laws.proofs.Lookups.{any-put}
-use Rattle.table_laws.proofs.Finding.{keys_same}
+use Rattle.pool_model.specs.Table.{change_at, AreChangesRising}
+use Rattle.pool_model.proofs.Sorted.{IsPut, rising_fold}
+use Rattle.pool_model.specs.Homes.{is_among, GivesOwnChanges}
+use Rattle.pool_model.proofs.Lookups.{any-put}
+use Rattle.pool_model.proofs.Finding.{keys_same}
 
 -- ---- Sorted keys
 

@@ -14,14 +14,14 @@ use Rattle.ddt_entry.specs.declared.entry.Home.{Home}
 use Rattle.ddt_entry.specs.declared.entry.Entry.{Entry}
 use Rattle.ddt_entry.specs.declared.entry.Change.{Change}
 use Rattle.ddt_entry.specs.declared.entry.Change.TheVariants as changes
-use Rattle.pool_model.specs.Table.{TableState, home_in, entry_at, change_at, found_over, found, set_entry, drop_entry, flush_entry, logged, flushed, flush_limit, swap_keys, swap_age, is_due, aged, swapped, sync_table, counted}
-use Rattle.table_state.specs.Tables.{IsTable, AreChangesRising}
-use Rattle.table_state.proofs.Lists.{all_behind, all_front}
-use Rattle.table_state.proofs.TablePuts.{changes_put}
-use Rattle.table_laws.specs.Homes.{found_with, StaysOrGoes}
-use Rattle.table_laws.proofs.Lookups.{at-above, found_has}
-use Rattle.table_laws.proofs.Finding.{keys_same, entry_at-set, entry_at-drop, laid, folded}
-use Rattle.table_laws.proofs.Logging.{found-logged, logged_sorted}
+use Rattle.pool_model.specs.Table.{TableState, home_in, entry_at, change_at, found_over, found, set_entry, drop_entry, flush_entry, logged, flushed, flush_limit, swap_keys, swap_age, is_due, aged, swapped, sync_table, counted, IsTable, AreChangesRising}
+use Rattle.pool_model.proofs.Lists.{pairs_front, all_behind}
+use Rattle.pool_model.proofs.TablePuts.{changes_put}
+use Rattle.pool_model.specs.Homes.{found_with, StaysOrGoes}
+use Rattle.pool_model.proofs.Lookups.{at-above, found_has}
+use Rattle.pool_model.proofs.Finding.{keys_same, entry_at-set, entry_at-drop, laid, folded}
+use Rattle.pool_model.proofs.Logging.{found-logged}
+use Rattle.pool_model.proofs.Syncing.{logged_keeps}
 
 -- ---- Flushing
 
@@ -62,11 +62,6 @@ by_logs zap (Some change) None None apart = by_home (home_in change)
     by_home None = inl refl
     by_home (Some home) = by_count home (nat_lt 0 home.count) refl
 
--- what holds between each two of two lists, one behind the other, holds between each two of the first
-pairs_front : (left rest : List Change) → AreChangesRising (left ++ rest) → AreChangesRising left
-pairs_front [] rest rising = tt
-pairs_front (change ∷ left) rest rising = (all_front (ChangeBelow change) left rest rising.0, pairs_front left rest rising.1)
-
 module _ (limit : ℕ) (table : TableState) (key : Key) (rising : AreChangesRising table.flush) where
   abbrev left : List Change
   left = take limit table.flush
@@ -87,7 +82,7 @@ module _ (limit : ℕ) (table : TableState) (key : Key) (rising : AreChangesRisi
   split = subst AreChangesRising (sym whole) rising
 
   stored : entry_at key (fold flush_entry table.zap left) ≡ laid flushed_home zap (change_at key left)
-  stored = folded key flush_entry (entry_at key) flushed_home (entry_at-flush_entry key) left table.zap (pairs_front left rest split)
+  stored = folded key flush_entry (entry_at key) flushed_home (entry_at-flush_entry key) left table.zap (pairs_front ChangeBelow left rest split)
 
   -- changes that are flushed keep their homes, or were those of no pointer
   found-flushed : StaysOrGoes (found table key) (found (flushed limit table) key)
@@ -120,7 +115,7 @@ pub found-synced : (changes : List Change) (table : TableState) (key : Key) → 
 found-synced changes table key is rising =
     subst (StaysOrGoes (found_with changes table key)) (sym (found-swapped (flushed (flush_limit table) (logged changes table)) key))
     (subst (λ o. StaysOrGoes o (found (flushed (flush_limit table) (logged changes table)) key)) (found-logged changes table key rising)
-    (found-flushed (flush_limit table) (logged changes table) key (logged_sorted changes table is).flush_rising))
+    (found-flushed (flush_limit table) (logged changes table) key (logged_keeps changes table is).flush_rising))
 
 -- a home with no pointers counts for nothing, there or gone
 pub counted_stays : (before now : Option Home) → StaysOrGoes before now → counted now ≡ counted before

@@ -7,7 +7,7 @@ use Rattle.ddt_entry.specs.declared.key.Key.{Key}
 use Rattle.ddt_entry.specs.declared.entry.Entry.{Entry}
 use Rattle.ddt_entry.proofs.KeyLaws.{key_cmp_total, exact_keys, is_eq-key_cmp}
 use Rattle.pool_model.specs.Table.{set_entry, set_change}
-use Rattle.table_state.proofs.Sorted.{IsPut, less_of}
+use Rattle.pool_model.proofs.Sorted.{IsPut, less_of}
 
 pub entries_put : IsPut key_cmp (λ (entry : Entry). entry.key) set_entry
 entries_put = record { total = key_cmp_total; exact = exact_keys; alone = λ x. refl; step = λ x y ys. refl }

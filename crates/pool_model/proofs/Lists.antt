@@ -1,7 +1,8 @@
 -- What holds of each element of a list, or between any two, holds of what a filter, a take or a drop leaves of it.
-use Rattle.std.proofs.Common.{◌≡◌, ℕ, ◌+◌, ◌≤◌, Bool, true, false, cond, List, [], ◌∷◌, ◌++◌, length, filter, find, fold, take, drop, take-append-drop, Some, None, refl, sym, ap, subst, ◌∙◌, arith}
+use Rattle.std.proofs.Common.{◌≡◌, ℕ, ◌+◌, ◌≤◌, Bool, true, false, cond, List, [], ◌∷◌, ◌++◌, length, filter, find, fold, take, drop, take-append-drop, Some, None, inl, inr, ⊎_elim, refl, sym, ap, subst, ◌∙◌, arith}
 use Rattle.std.specs.List.{AllByRecursion}
 use Rattle.pool_model.specs.Pool.{Pairwise}
+use Rattle.pool_model.specs.Waiting.{IsIn, AreAmong}
 
 module _ {X : Type 0} where
   -- a property that follows from another
@@ -70,7 +71,7 @@ module _ {X : Type 0} where
           all_from_both (λ y. R x y) (λ y. AllByRecursion (R y) (filter more xs)) (λ y. R y x × AllByRecursion (R y) (filter more xs)) (λ y r all. (back x y r, all)) (filter one xs) (all_filter (R x) one xs pairs.0) rest
       by_tests rest false false first second = rest
 
-  -- what holds of two lists, one behind the other, holds of each
+  -- what holds of two lists, one behind the other, holds of each, and the other way round
   pub all_front : (P : X → Type 0) (xs ys : List X) → AllByRecursion P (xs ++ ys) → AllByRecursion P xs
   all_front P [] ys all = tt
   all_front P (x ∷ xs) ys all = (all.0, all_front P xs ys all.1)
@@ -78,6 +79,14 @@ module _ {X : Type 0} where
   pub all_back : (P : X → Type 0) (xs ys : List X) → AllByRecursion P (xs ++ ys) → AllByRecursion P ys
   all_back P [] ys all = all
   all_back P (x ∷ xs) ys all = all_back P xs ys all.1
+
+  pub all_both : (P : X → Type 0) (xs ys : List X) → AllByRecursion P xs → AllByRecursion P ys → AllByRecursion P (xs ++ ys)
+  all_both P [] ys all more = more
+  all_both P (x ∷ xs) ys all more = (all.0, all_both P xs ys all.1 more)
+
+  pub pairs_front : (R : X → X → Type 0) (xs ys : List X) → Pairwise R (xs ++ ys) → Pairwise R xs
+  pairs_front R [] ys pairs = tt
+  pairs_front R (x ∷ xs) ys pairs = (all_front (R x) xs ys pairs.0, pairs_front R xs ys pairs.1)
 
   pub pairs_back : (R : X → X → Type 0) (xs ys : List X) → Pairwise R (xs ++ ys) → Pairwise R ys
   pairs_back R [] ys pairs = pairs
@@ -142,3 +151,21 @@ module _ {X : Type 0} where
   pub fold_keeps : {S : Type 0} (Q : S → Type 0) (P : X → Type 0) (step : S → X → S) → ((state : S) (x : X) → Q state → P x → Q (step state x)) → (xs : List X) (state : S) → Q state → AllByRecursion P xs → Q (fold step state xs)
   fold_keeps Q P step keeps [] state now all = now
   fold_keeps Q P step keeps (x ∷ xs) state now all = fold_keeps Q P step keeps xs (step state x) (keeps state x now all.0) all.1
+
+  -- what holds of each element holds of one of them
+  pub all_at : (P : X → Type 0) (x : X) (ys : List X) → IsIn x ys → AllByRecursion P ys → P x
+  all_at P x [] is all = absurd is
+  all_at P x (y ∷ ys) is all = ⊎_elim (λ here. subst P (sym here) all.0) (λ later. all_at P x ys later all.1) is
+
+  -- each element is one of all
+  pub all_in : (xs : List X) → AreAmong xs xs
+  all_in [] = tt
+  all_in (x ∷ xs) = (inl refl, all_from (λ (y : X). IsIn y xs) (λ (y : X). IsIn y (x ∷ xs)) (λ y is. inr is) xs (all_in xs))
+
+  -- what holds of all holds of those that are among them
+  pub among_all : (P : X → Type 0) (some all : List X) → AreAmong some all → AllByRecursion P all → AllByRecursion P some
+  among_all P some all among each = all_from (λ (x : X). IsIn x all) P (λ x is. all_at P x all is each) some among
+
+  -- and the other way around
+  pub among_by : (some all : List X) → ((P : X → Type 0) → AllByRecursion P all → AllByRecursion P some) → AreAmong some all
+  among_by some all from = from (λ x. IsIn x all) (all_in all)

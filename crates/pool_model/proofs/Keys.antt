@@ -13,16 +13,14 @@ use Rattle.ddt_entry.specs.declared.entry.Home.{Home}
 use Rattle.ddt_entry.specs.declared.entry.Entry.{Entry}
 use Rattle.ddt_entry.proofs.KeyLaws.{key_cmp_total, exact_keys, is_eq-key_cmp, key_eq-true, key_eq-same, key_eq-symm}
 use Rattle.pool_model.specs.Pool.{Pool, Pointer, Pairwise, is_tracked, tracks, tracked_at, count_at, with_key, keys_in, comes_before, insert_pointer, with_pointer}
-use Rattle.pool_model.specs.Table.{TableState, entry_at, found, counted, entries_found, home_of_pointers}
-use Rattle.table_state.specs.Flat.{AreRising, counted_homes}
-use Rattle.table_state.specs.Tables.{IsTable}
-use Rattle.table_state.proofs.Lists.{all_from, pairs_filter}
-use Rattle.table_state.proofs.Sorted.{less_of, rising_put}
-use Rattle.table_state.proofs.TablePuts.{entries_put, apart_by_order}
-use Rattle.table_laws.specs.Homes.{HomesMatch, is_among}
-use Rattle.table_laws.proofs.Lookups.{any-put, at-above}
-use Rattle.table_laws.proofs.Finding.{keys_same, found-is, rising_found}
-use Rattle.table_laws.proofs.Named.{keys_put, or_rotates, or_false, KeyBelow}
+use Rattle.pool_model.specs.Table.{TableState, entry_at, found, counted, entries_found, home_of_pointers, AreRising, counted_homes, IsTable}
+use Rattle.pool_model.proofs.Lists.{all_from, pairs_filter}
+use Rattle.pool_model.proofs.Sorted.{less_of, rising_put}
+use Rattle.pool_model.proofs.TablePuts.{entries_put, apart_by_order}
+use Rattle.pool_model.specs.Homes.{HomesMatch, is_among}
+use Rattle.pool_model.proofs.Lookups.{any-put, at-above}
+use Rattle.pool_model.proofs.Finding.{keys_same, found-is, rising_found}
+use Rattle.pool_model.proofs.Named.{keys_put, or_rotates, or_false, KeyBelow}
 
 -- ---- Rising keys
 
