@@ -12,9 +12,9 @@ use Rattle.table_state.specs.Flat.{mark_of, pointer_of}
 use Rattle.table_state.specs.Pools.{with_blocks, pool_after}
 use Rattle.table_state.specs.declared.slot_record.SlotRecord.{SlotRecord}
 use Rattle.pool_model.proofs.Lists.{all_from}
-use Rattle.held_laws.specs.Slots.{kind_of, slot_of, refilled, refilled_pool}
-use Rattle.held_laws.proofs.MarksOf.{marks_stand}
-use Rattle.held_laws.proofs.Members.{all_kept, pairs_kept}
+use Rattle.pool_model.proofs.Members.{all_kept, pairs_kept}
+use Rattle.table_state.specs.Slots.{kind_of, slot_of, refilled, refilled_pool}
+use Rattle.table_state.proofs.MarksOf.{marks_stand}
 
 -- ---- The pool and its table
 

@@ -14,7 +14,7 @@ use Rattle.table_state.specs.Flat.{mark_of, pointer_of, table_in}
 use Rattle.table_state.specs.Pools.{Held, IsHeld, is_slot_at, insert_slot, set_slot, slots_after}
 use Rattle.table_state.specs.declared.slot_record.SlotRecord.{SlotRecord}
 use Rattle.pool_model.proofs.Lists.{all_missed, filter_whole}
-use Rattle.held_laws.specs.Slots.{kind_of, slot_of, change_to}
+use Rattle.table_state.specs.Slots.{kind_of, slot_of, change_to}
 
 -- ---- The slots of a pool
 

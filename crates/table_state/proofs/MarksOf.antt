@@ -9,10 +9,11 @@ use Rattle.ddt_entry.specs.declared.entry.Home.{Home}
 use Rattle.ddt_entry.proofs.KeyLaws.{key_eq-same, key_eq-symm}
 use Rattle.pool_model.specs.Pool.{Pool, Pointer, Mark, plain, tracked, loose, IsApart, run_length, is_tracked, since_of, tracks, tracked_at, SharesHome, GoTogether, IsWellFormed}
 use Rattle.pool_model.specs.Table.{TableState, found, counted, home_of_pointers}
+use Rattle.pool_model.specs.Waiting.{IsIn}
 use Rattle.table_state.specs.Flat.{mark_by, mark_of}
-use Rattle.pool_model.proofs.Lists.{all_from}
-use Rattle.held_laws.specs.Slots.{kind_of}
-use Rattle.held_laws.proofs.Members.{In, clash, each_in, at_in, pair_in, in_filter, in_unfiltered, passed_in}
+use Rattle.pool_model.proofs.Lists.{all_from, all_in, all_at}
+use Rattle.pool_model.proofs.Members.{clash, pair_in, in_filter, in_unfiltered, passed_in}
+use Rattle.table_state.specs.Slots.{kind_of}
 
 -- ---- Marks and homes
 
@@ -51,10 +52,10 @@ some_run key some = omega (arith, some)
 
 module _ (sectors : ℕ) (pool : Pool) (table : TableState) (well : IsWellFormed sectors pool) (homes : (key : Key) → counted (found table key) ≡ home_of_pointers (tracked_at pool key)) (lens : AllByRecursion (λ p. 0 < p.key.len) pool.pointers) where
   abbrev Stands : Pointer → Type 0
-  Stands p = In p pool.pointers
+  Stands p = IsIn p pool.pointers
 
   run_of : (p : Pointer) → Stands p → 1 ≤ run_length p.key
-  run_of p here = some_run p.key (at_in (λ q. 0 < q.key.len) p pool.pointers here lens)
+  run_of p here = some_run p.key (all_at (λ q. 0 < q.key.len) p pool.pointers here lens)
 
   -- what is tracked under a tracked pointer's key has its home
   shares : (p q : Pointer) → Stands p → Stands q → is_tracked p.mark ≡ true → tracks p.key q ≡ true → SharesHome p q
@@ -85,13 +86,13 @@ module _ (sectors : ℕ) (pool : Pool) (table : TableState) (well : IsWellFormed
       known : is_tracked p.mark ≡ true
       known = ap is_tracked is
 
-      among : In p (tracked_at pool p.key)
+      among : IsIn p (tracked_at pool p.key)
       among = in_filter (tracks p.key) p pool.pointers (and_from _ _ known (key_eq-same p.key)) here
 
       by_list : (qs : List Pointer) → tracked_at pool p.key ≡ qs → mark_by (found table p.key) p.place p.birth ≡ tracked since
-      by_list [] none = absurd (subst (In p) none among)
+      by_list [] none = absurd (subst (IsIn p) none among)
       by_list (q ∷ qs) some =
-          let first : In q (tracked_at pool p.key) = subst (In q) (sym some) (inl refl) in
+          let first : IsIn q (tracked_at pool p.key) = subst (IsIn q) (sym some) (inl refl) in
           let home = shares p q here (in_unfiltered (tracks p.key) q pool.pointers first) known (passed_in (tracks p.key) q pool.pointers first) in
           marks_tracked (found table p.key) p.place p.birth since (record { place = q.place; birth = q.birth; since = since_of q.mark; count = length (q ∷ qs) })
           (homes p.key ∙ ap home_of_pointers some) (sym home.place) (sym home.birth) (sym home.since ∙ ap since_of is)
@@ -105,7 +106,7 @@ module _ (sectors : ℕ) (pool : Pool) (table : TableState) (well : IsWellFormed
           none_is : Some home ≡ None → ⊥
           none_is e = cc e
       by_list home counts same (q ∷ qs) some =
-          let first : In q (tracked_at pool p.key) = subst (In q) (sym some) (inl refl) in
+          let first : IsIn q (tracked_at pool p.key) = subst (IsIn q) (sym some) (inl refl) in
           differ p q here (in_unfiltered (tracks p.key) q pool.pointers first) (ap is_tracked is)
           (and_parts (is_tracked q.mark) (key_eq q.key p.key) (passed_in (tracks p.key) q pool.pointers first)).0
           (sym same ∙ ap (λ (o : Option Home). place_in o) (sym counts ∙ homes p.key ∙ ap home_of_pointers some))
@@ -121,4 +122,4 @@ module _ (sectors : ℕ) (pool : Pool) (table : TableState) (well : IsWellFormed
 
   -- each pointer has the mark that the table gives its slot
   pub marks_stand : AllByRecursion (λ p. mark_of (kind_of p.mark) (found table p.key) p.place p.birth ≡ p.mark) pool.pointers
-  marks_stand = all_from Stands (λ p. mark_of (kind_of p.mark) (found table p.key) p.place p.birth ≡ p.mark) (λ p here. marked p p.mark here refl) pool.pointers (each_in pool.pointers)
+  marks_stand = all_from Stands (λ p. mark_of (kind_of p.mark) (found table p.key) p.place p.birth ≡ p.mark) (λ p here. marked p p.mark here refl) pool.pointers (all_in pool.pointers)

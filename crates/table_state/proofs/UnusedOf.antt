@@ -1,5 +1,5 @@
 -- A sector that a pool in memory doesn't use is free for a run of one sector, and so are the first such ones together.
-use Rattle.std.proofs.Common.{◌≡◌, ◌≢◌, ℕ, ◌+◌, ◌<◌, Bool, true, false, ◌||◌, ◌==◌, inl, inr, ⊎_elim, List, [], ◌∷◌, ◌++◌, map, take, drop, take-append-drop, sym, ap, subst, ◌∙◌, eqb, eq-eqb, arith}
+use Rattle.std.proofs.Common.{◌≡◌, ◌≢◌, ℕ, ◌+◌, ◌<◌, Bool, true, false, ◌||◌, ◌==◌, inl, inr, ⊎_elim, List, [], ◌∷◌, map, take, drop, take-append-drop, sym, ap, subst, ◌∙◌, eqb, eq-eqb, arith}
 use Rattle.std.specs.Prelude.{nat_lt, slice_index_or}
 use Rattle.std.specs.List.{AllByRecursion, IsDistinct, list_any}
 use Rattle.std.proofs.lemmas.Bool.{or_parts, and_from, lt-ltb, le-leb, ltb-false, cases_lt}
@@ -15,9 +15,9 @@ use Rattle.pool_model.specs.Table.{TableState, waiting_in}
 use Rattle.pool_model.specs.Group.{Standing, IsFree, AreFresh}
 use Rattle.table_state.specs.Holding.{StandsOver}
 use Rattle.table_state.specs.Pools.{Held}
-use Rattle.pool_model.proofs.Lists.{all_from, all_front, all_take}
+use Rattle.pool_model.proofs.Lists.{all_from, all_take, pairs_front}
+use Rattle.pool_model.proofs.Members.{clash}
 use Rattle.table_state.proofs.UsedLaws.{length-used_sectors}
-use Rattle.held_laws.proofs.Members.{clash}
 
 -- ---- Runs that don't meet
 
@@ -95,11 +95,6 @@ unused_free image held s over place unused =
 -- none of the places that were found is used
 pub found_unused : (used : List Bool) (wanted : ℕ) (places : List ℕ) → AreFirstFree used wanted places → AllByRecursion (λ place. slice_index_or used place true ≡ false) places
 found_unused used wanted places found = all_from (IsFreeSector used) (λ place. slice_index_or used place true ≡ false) (λ place is. is.free true) places (found-free used wanted places found)
-
-module _ {X : Type 0} (R : X → X → Type 0) where
-  pairs_front : (xs ys : List X) → Pairwise R (xs ++ ys) → Pairwise R xs
-  pairs_front [] ys pairs = tt
-  pairs_front (x ∷ xs) ys pairs = (all_front (R x) xs ys pairs.0, pairs_front xs ys pairs.1)
 
 distinct_apart : (places : List ℕ) → IsDistinct eqb places → Pairwise (λ a b. IsApart a 1 b 1) places
 unfolding IsDistinct
