@@ -15,7 +15,8 @@ module _ {X : Type 0} where
   pair_in R x y (z ∷ zs) here there pairs =
       ⊎_elim
       (λ xz. ⊎_elim (λ yz. inl (xz ∙ sym yz)) (λ later. inr (inl (subst (λ w. R w y) (sym xz) (all_at (R z) y zs later pairs.0)))) there)
-      (λ later. ⊎_elim (λ yz. inr (inr (subst (λ w. R w x) (sym yz) (all_at (R z) x zs later pairs.0)))) (λ again. pair_in R x y zs later again pairs.1) there)
+      (λ later. ⊎_elim (λ yz. inr (inr (subst (λ w. R w x) (sym yz) (all_at (R z) x zs later pairs.0))))
+      (λ again. pair_in R x y zs later again pairs.1) there)
       here
 
   -- what passes a test is in what the filter leaves
@@ -31,7 +32,8 @@ module _ {X : Type 0} where
   in_unfiltered test x [] here = here
   in_unfiltered test x (y ∷ ys) here = by_test (in_unfiltered test x ys) (test y) here
     where
-      by_test : (IsIn x (filter test ys) → IsIn x ys) → (b : Bool) → IsIn x (cond b (y ∷ filter test ys) (filter test ys)) → (x ≡ y) ⊎ IsIn x ys
+      by_test : (IsIn x (filter test ys) → IsIn x ys) → (b : Bool) → IsIn x (cond b (y ∷ filter test ys) (filter test ys))
+          → (x ≡ y) ⊎ IsIn x ys
       by_test rest true there = ⊎_elim (λ same. inl same) (λ later. inr (rest later)) there
       by_test rest false there = inr (rest there)
 
@@ -39,11 +41,13 @@ module _ {X : Type 0} where
   passed_in test x xs here = all_at (λ y. test y ≡ true) x (filter test xs) here (all_tested (λ y. test y ≡ true) test (λ y e. e) xs)
 
   -- a property that a map keeps, and a relation
-  pub all_kept : (P : X → Type 0) (f : X → X) → ((x : X) → P x → P (f x)) → (xs : List X) → AllByRecursion P xs → AllByRecursion P (map f xs)
+  pub all_kept : (P : X → Type 0) (f : X → X) → ((x : X) → P x → P (f x)) → (xs : List X) → AllByRecursion P xs
+      → AllByRecursion P (map f xs)
   all_kept P f keeps [] all = tt
   all_kept P f keeps (x ∷ xs) all = (keeps x all.0, all_kept P f keeps xs all.1)
 
-  pub pairs_kept : (R : X → X → Type 0) (f : X → X) → ((x y : X) → R x y → R (f x) (f y)) → (xs : List X) → Pairwise R xs → Pairwise R (map f xs)
+  pub pairs_kept : (R : X → X → Type 0) (f : X → X) → ((x y : X) → R x y → R (f x) (f y)) → (xs : List X) → Pairwise R xs
+      → Pairwise R (map f xs)
   pairs_kept R f keeps [] pairs = tt
   pairs_kept R f keeps (x ∷ xs) pairs = (each xs pairs.0, pairs_kept R f keeps xs pairs.1)
     where
