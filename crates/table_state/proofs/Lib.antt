@@ -16,3 +16,4 @@ pub mod TableBack
 pub mod TablePuts
 pub mod TableRoom
 pub mod UsedLaws
+pub mod UsedPlaces
