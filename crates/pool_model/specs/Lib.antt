@@ -1,8 +1,10 @@
+pub mod ByKey
 pub mod Clash
 pub mod Crash
 pub mod Command
 pub mod File
 pub mod Group
+pub mod Homes
 pub mod Plain
 pub mod Pool
 pub mod Prune

@@ -9,7 +9,7 @@ use Rattle.ddt_entry.specs.declared.entry.Entry.{Entry}
 use Rattle.pool_model.specs.Pool.{Pool, Pointer, run_length}
 use Rattle.pool_model.specs.Space.{is_used, lies_in, used_sectors}
 use Rattle.pool_model.specs.Table.{TableState, waiting_in}
-use Rattle.table_state.proofs.Lists.{all_from, all_from_both}
+use Rattle.pool_model.proofs.Lists.{all_from, all_from_both}
 use Rattle.table_state.proofs.UsedLaws.{length-used_sectors}
 
 or_behind : (a b : Bool) → b ≡ true → (a || b) ≡ true

@@ -8,20 +8,19 @@ use Rattle.disk_model.specs.Images.{Image, sector_at}
 use Rattle.uber_ring.specs.Ring.{newest}
 use Rattle.pool_model.specs.Group.{Standing}
 use Rattle.pool_model.specs.Pool.{Pool, Pointer, LiesWithin, run_length}
-use Rattle.pool_model.specs.Table.{TableState, waiting_in}
+use Rattle.pool_model.specs.Table.{TableState, waiting_in, IsTable}
 use Rattle.table_state.specs.Flat.{StandsFor, SameIn, IsWithin, IsChangeWithin, flat_version, table_in}
 use Rattle.table_state.specs.Holding.{Holds, StandsOver}
 use Rattle.table_state.specs.Pools.{Held}
 use Rattle.table_state.specs.Sound.{IsSound}
-use Rattle.table_state.specs.Tables.{IsTable}
 use Rattle.table_state.specs.declared.slot_record.SlotRecord.{SlotRecord}
 use Rattle.table_state.proofs.Held.{SamePointers, SameWaiting, holds_over, holds_kept}
 use Rattle.table_state.proofs.Kept.{pages_behind}
-use Rattle.table_state.proofs.Lists.{all_from_both}
+use Rattle.pool_model.proofs.Lists.{all_from_both}
 use Rattle.table_state.proofs.TableBack.{is_table_in}
 use Rattle.table_state.proofs.UsedLaws.{all_waiting, pointer_runs, slot_lengths, waiting_runs}
 use Rattle.table_state.proofs.UsedPlaces.{pages_used, pointers_used, waiting_used}
-use Rattle.table_laws.proofs.Waiting.{waiting_has}
+use Rattle.pool_model.proofs.Waiting.{waiting_has}
 
 module _ (image : Image) (held : Held) (s : Standing) (sound : IsSound held) (over : StandsOver image held s) where
   abbrev state : StandsFor held.tag image s.pool s.table

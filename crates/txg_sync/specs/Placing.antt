@@ -1,6 +1,5 @@
 -- Which sectors a pool uses after a group, and where the group's chains may go: to sectors that nothing uses, not even a block of the group.
-use Rattle.std.specs.Prelude.{◌≡◌, ℕ, ◌<◌, Bool, not, true, false, ◌==◌, List, [], ◌∷◌, length, map, take, drop, slice_index_or, count_by}
-use Rattle.std.specs.Prelude.{Option}
+use Rattle.std.specs.Prelude.{◌≡◌, ℕ, ◌<◌, Bool, not, true, false, ◌==◌, List, [], ◌∷◌, length, map, take, drop, slice_index_or, count_by, Option}
 use Rattle.std.specs.List.{AllByRecursion, list_any}
 use Rattle.grant_book.specs.Sectors.{marked}
 use Rattle.page_tree.specs.Chains.{pages_for, AreOpen}

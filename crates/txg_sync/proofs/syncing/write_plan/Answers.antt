@@ -9,9 +9,7 @@ use Rattle.table_state.specs.Sealed.{ChainPart, places_in}
 use Rattle.table_state.specs.Closing.{closed_of, CanSyncOver}
 use Rattle.txg_sync.specs.Planning.{IsNext}
 use Rattle.txg_sync.proofs.Afterwards.{sound_after}
-use Rattle.txg_sync.proofs.Syncs.{stored_at, pages_after, seal_version_is, open_on_disk, follows_newest, syncs_of, while_syncing}
-use Rattle.txg_sync.proofs.Syncs.{while_filling, may_be_as_planned, unsealed_as_planned}
-use Rattle.txg_sync.proofs.Syncs.{sealed_as_planned, spelt_by}
+use Rattle.txg_sync.proofs.Syncs.{stored_at, pages_after, seal_version_is, open_on_disk, follows_newest, syncs_of, while_syncing, while_filling, may_be_as_planned, unsealed_as_planned, sealed_as_planned, spelt_by}
 use Rattle.txg_sync.proofs.syncing.write_plan.Goals as goal
 
 pub seal_group-sealed-requires-clause-follows : goal.seal_group-sealed-requires-clause-follows
