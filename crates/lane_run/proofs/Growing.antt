@@ -11,8 +11,8 @@ use Rattle.table_state.specs.Pools.{Held, is_slot_at, insert_slot, slot_with, se
 use Rattle.table_state.specs.Sealed.{changed_slot}
 use Rattle.table_state.specs.declared.slot_record.SlotRecord.{SlotRecord}
 use Rattle.table_state.proofs.SlotsAfter.{Makes, each_after}
-use Rattle.held_laws.proofs.SlotsOf.{change_behind}
-use Rattle.held_laws.proofs.UnusedOf.{each_fails}
+use Rattle.table_state.proofs.SlotsOf.{change_behind}
+use Rattle.table_state.proofs.UnusedOf.{each_fails}
 use Rattle.lane_run.specs.Live.{Live, is_change_at, is_taken}
 
 -- no slot at this place

@@ -26,11 +26,11 @@ use Rattle.table_state.specs.declared.slot_record.SlotRecord.{SlotRecord}
 use Rattle.table_state.proofs.UsedLaws.{one_sector}
 use Rattle.table_state.specs.Closing.{CanSync, IsNamed, block_places, pool_with, table_after}
 use Rattle.table_state.proofs.RoomLaws.{need_enough}
-use Rattle.held_laws.specs.Slots.{slot_of, refilled, refilled_pool}
-use Rattle.held_laws.proofs.BlocksOf.{beside_blocks, blocks_placed}
-use Rattle.held_laws.proofs.Refilled.{well_formed_refilled, matches_refilled, pool_refilled}
-use Rattle.held_laws.proofs.SoundOf.{pointer_lengths}
-use Rattle.held_laws.proofs.UnusedOf.{found_fresh}
+use Rattle.table_state.specs.Slots.{slot_of, refilled, refilled_pool}
+use Rattle.table_state.proofs.BlocksOf.{beside_blocks, blocks_placed}
+use Rattle.table_state.proofs.Refilled.{well_formed_refilled, matches_refilled, pool_refilled}
+use Rattle.table_state.proofs.SoundOf.{pointer_lengths}
+use Rattle.table_state.proofs.UnusedOf.{found_fresh}
 use Rattle.pool_model.specs.Homes.{GivesOwnChanges, found_with}
 use Rattle.pool_model.proofs.Lookups.{found_has}
 use Rattle.pool_model.proofs.Named.{named_rising, change_at-named}

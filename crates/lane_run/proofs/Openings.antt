@@ -20,8 +20,8 @@ use Rattle.table_state.specs.Pools.{Held}
 use Rattle.table_state.specs.Sound.{IsSound, HasKeyLengths}
 use Rattle.table_state.proofs.TableBack.{is_table_in}
 use Rattle.table_state.proofs.UsedLaws.{waiting_runs}
-use Rattle.held_laws.proofs.SoundOf.{held_sound}
-use Rattle.held_laws.proofs.UnusedOf.{unused_free}
+use Rattle.table_state.proofs.SoundOf.{held_sound}
+use Rattle.table_state.proofs.UnusedOf.{unused_free}
 use Rattle.pool_model.specs.Homes.{HomesMatch}
 use Rattle.pool_model.proofs.Waiting.{waiting_has}
 use Rattle.pool_model.proofs.Matching.{matches_read}

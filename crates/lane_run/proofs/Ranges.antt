@@ -1,6 +1,5 @@
 -- What holds of a group so far whatever the disk tells: its lists are as long as its writes allow, and its numbers are in their ranges.
-use Rattle.std.proofs.Common.{◌≡◌, ◌⊎◌, ℕ, ◌+◌, ◌^◌, ◌<◌, ◌≤◌, ◌==◌, ◌||◌, Bool, true, false, cond, List, [], ◌∷◌, ◌++◌, length, take, get_or}
-use Rattle.std.proofs.Common.{Some, None, Option, refl, sym, ap, subst, zero, suc, ◌∙◌, arith, length-append, ⊎_elim}
+use Rattle.std.proofs.Common.{◌≡◌, ◌⊎◌, ℕ, ◌+◌, ◌^◌, ◌<◌, ◌≤◌, ◌==◌, ◌||◌, Bool, true, false, cond, List, [], ◌∷◌, ◌++◌, length, take, get_or, Some, None, Option, refl, sym, ap, subst, zero, suc, ◌∙◌, arith, length-append, ⊎_elim}
 use Rattle.std.specs.Prelude.{slice_index_or, if◌then◌else◌}
 use Rattle.std.specs.List.{AllByRecursion, find, list_any, IsDistinct}
 use Rattle.std.specs.Option.{option_map}
@@ -20,6 +19,7 @@ use Rattle.pool_model.specs.Plain.{Stored, to_write}
 use Rattle.pool_model.specs.Command.{Spot, nowhere, at_home, at_fresh, Row, uses_table, pointer_at}
 use Rattle.pool_model.specs.declared.closed.SlotChange.{SlotChange}
 use Rattle.pool_model.proofs.Lists.{all_from}
+use Rattle.pool_model.proofs.Members.{clash}
 use Rattle.table_state.specs.Closing.{block_places}
 use Rattle.table_state.specs.Pools.{Held, slots_after}
 use Rattle.table_state.specs.Sealed.{ChangesSlotWithin}
@@ -28,11 +28,9 @@ use Rattle.table_state.specs.declared.slot_record.SlotRecord.{SlotRecord}
 use Rattle.table_state.proofs.SlotCounts.{length-rising}
 use Rattle.table_state.proofs.SlotLaws.{is_slot-true}
 use Rattle.table_state.proofs.SlotsAfter.{rising_after, within_after, within_later}
-use Rattle.held_laws.specs.Slots.{slot_of, kept_of}
-use Rattle.held_laws.proofs.Members.{clash}
-use Rattle.held_laws.proofs.UnusedOf.{found_unused}
-use Rattle.lane_run.specs.Live.{Live, or_below, home_here, first_mode, is_taken, write_of, put_home, put_at, with_first, brought, shared, after_row}
-use Rattle.lane_run.specs.Live.{IsHomeOf, IsReady, IsSince}
+use Rattle.table_state.specs.Slots.{slot_of, kept_of}
+use Rattle.table_state.proofs.UnusedOf.{found_unused}
+use Rattle.lane_run.specs.Live.{Live, or_below, home_here, first_mode, is_taken, write_of, put_home, put_at, with_first, brought, shared, after_row, IsHomeOf, IsReady, IsSince}
 use Rattle.lane_run.proofs.Growing.{one_slot_more}
 use Rattle.lane_run.proofs.Places.{IsNew, all_more}
 use Rattle.lane_run.proofs.Openings.{found_within}

@@ -18,9 +18,9 @@ use Rattle.pool_model.specs.Command.{Course, home_at, or_in, last_tracked, at_ho
 use Rattle.pool_model.specs.Group.{Standing, opening_of}
 use Rattle.table_state.specs.Pools.{Held, is_slot_at, slots_after, set_slot, block_sector}
 use Rattle.table_state.specs.Closing.{IsNamed, block_places}
-use Rattle.held_laws.specs.Slots.{slot_of, change_to}
-use Rattle.held_laws.proofs.SlotsOf.{slot_set, change_behind}
-use Rattle.held_laws.proofs.BlocksOf.{block_cut}
+use Rattle.table_state.specs.Slots.{slot_of, change_to}
+use Rattle.table_state.proofs.SlotsOf.{slot_set, change_behind}
+use Rattle.table_state.proofs.BlocksOf.{block_cut}
 use Rattle.pool_model.proofs.Keys.{keys_in-untracked, length-keys_in_new, keys_in-counted}
 use Rattle.pool_model.proofs.Pointers.{all_insert, none_insert, first_has}
 use Rattle.pool_model.proofs.Homes.{left_by, home_now, none_now, uncounted_zero}

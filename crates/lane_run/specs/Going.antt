@@ -20,7 +20,7 @@ use Rattle.pool_model.specs.Command.{Opening, Turn, Course, known_home, last_tra
 use Rattle.pool_model.specs.Group.{Standing, opening_of, course_of}
 use Rattle.table_state.specs.Pools.{Held, slots_after}
 use Rattle.table_state.specs.Closing.{IsNamed, block_places}
-use Rattle.held_laws.specs.Slots.{slot_of}
+use Rattle.table_state.specs.Slots.{slot_of}
 use Rattle.table_state.specs.Holding.{StandsOver}
 use Rattle.lane_run.specs.Live.{Live, is_taken, home_here, sector_here, first_mode}
 

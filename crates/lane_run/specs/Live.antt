@@ -1,6 +1,5 @@
 -- A group of writes of lane 0 as far as it has come, beside the pool as the newest sealed group left it: what one write makes of it.
-use Rattle.std.specs.Prelude.{◌≡◌, ◌⊎◌, ℕ, ◌+◌, ◌-◌, ◌^◌, ◌<◌, ◌≤◌, min, ⊤, Bool, true, ◌&&◌, ◌||◌, ◌==◌, List, [], ◌∷◌, ◌++◌, take, fold, length}
-use Rattle.std.specs.Prelude.{Option, Some, None, unwrap_or, slice_get, if◌then◌else◌}
+use Rattle.std.specs.Prelude.{◌≡◌, ◌⊎◌, ℕ, ◌+◌, ◌-◌, ◌^◌, ◌<◌, ◌≤◌, min, ⊤, Bool, true, ◌&&◌, ◌||◌, ◌==◌, List, [], ◌∷◌, ◌++◌, take, fold, length, Option, Some, None, unwrap_or, slice_get, if◌then◌else◌}
 use Rattle.std.specs.List.{AllByRecursion, count_by, find, filter_map, list_any}
 use Rattle.ddt_entry.specs.Keys.{key_eq}
 use Rattle.ddt_entry.specs.Records.{KeyFits}
@@ -21,7 +20,7 @@ use Rattle.pool_model.specs.Command.{Opening, Known, Spot, nowhere, at_home, at_
 use Rattle.pool_model.specs.Group.{settled, change_from}
 use Rattle.table_state.specs.Pools.{Held, is_slot_at, block_sector}
 use Rattle.table_state.specs.Closing.{PlainClosed}
-use Rattle.held_laws.specs.Slots.{change_to}
+use Rattle.table_state.specs.Slots.{change_to}
 
 -- what a group has come to: the changes of the slots, the blocks that it stored, the homes that it made or changed, the keys that it named, how many keys are counted, and the replies
 pub record Live : Type 0 where

@@ -23,7 +23,8 @@ pub all_of_item : (P : List ℕ → Type 0) (done rest : List Part) (part : Part
     → AllByRecursion P (part_contents part)
 all_of_item P done rest part all =
     all_front P (part_contents part) (contents rest)
-    (all_back P (contents done) (contents (part ∷ rest)) (subst (AllByRecursion P) (flat_map-append part_contents done (part ∷ rest)) all))
+    (all_back P (contents done) (contents (part ∷ rest))
+    (subst (AllByRecursion P) (flat_map-append part_contents done (part ∷ rest)) all))
 
 -- the contents of one item are among those of all
 pub contents_of_item : (done rest : List Part) (part : Part) → AreAmong (part_contents part) (contents (done ++ part ∷ rest))
@@ -31,7 +32,8 @@ contents_of_item done rest part =
     among_by (part_contents part) (contents (done ++ part ∷ rest)) (λ P. all_of_item P done rest part)
 
 -- which contents are trusted hangs on the modes alone
-pub trusted_by_modes : (s at : Standing) → at.pool.modes ≡ s.pool.modes → (part : Part) → part_trusted at.pool part ≡ part_trusted s.pool part
+pub trusted_by_modes : (s at : Standing) → at.pool.modes ≡ s.pool.modes → (part : Part)
+    → part_trusted at.pool part ≡ part_trusted s.pool part
 trusted_by_modes s at e (of_group item) = of_item item
   where
     of_item : (item : GroupItem) → group_trusted at.pool item ≡ group_trusted s.pool item

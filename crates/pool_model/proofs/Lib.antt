@@ -26,6 +26,7 @@ pub mod Writing
 pub mod Going
 pub mod Counts
 pub mod Lists
+pub mod Members
 pub mod Sorted
 pub mod TablePuts
 pub mod Syncing

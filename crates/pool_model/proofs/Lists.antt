@@ -11,7 +11,8 @@ module _ {X : Type 0} where
   all_from P Q from (x ∷ xs) all = (from x all.0, all_from P Q from xs all.1)
 
   -- a property that follows from two others
-  pub all_from_both : (P Q R : X → Type 0) → ((x : X) → P x → Q x → R x) → (xs : List X) → AllByRecursion P xs → AllByRecursion Q xs → AllByRecursion R xs
+  pub all_from_both : (P Q R : X → Type 0) → ((x : X) → P x → Q x → R x) → (xs : List X) → AllByRecursion P xs → AllByRecursion Q xs
+      → AllByRecursion R xs
   all_from_both P Q R from [] all more = tt
   all_from_both P Q R from (x ∷ xs) all more = (from x all.0 more.0, all_from_both P Q R from xs all.1 more.1)
 
@@ -28,47 +29,58 @@ module _ {X : Type 0} where
   all_filter P test [] all = tt
   all_filter P test (x ∷ xs) all = kept P (test x) x (filter test xs) all.0 (all_filter P test xs all.1)
 
-  passed : (P : X → Type 0) (b : Bool) (x : X) (rest : List X) → (b ≡ true → P x) → AllByRecursion P rest → AllByRecursion P (cond b (x ∷ rest) rest)
+  passed : (P : X → Type 0) (b : Bool) (x : X) (rest : List X) → (b ≡ true → P x) → AllByRecursion P rest
+      → AllByRecursion P (cond b (x ∷ rest) rest)
   passed P true x rest here all = (here refl, all)
   passed P false x rest here all = all
 
   -- what a test tells holds of each element that passes it
-  pub all_passed : (P Q : X → Type 0) (test : X → Bool) → ((x : X) → test x ≡ true → P x → Q x) → (xs : List X) → AllByRecursion P xs → AllByRecursion Q (filter test xs)
+  pub all_passed : (P Q : X → Type 0) (test : X → Bool) → ((x : X) → test x ≡ true → P x → Q x) → (xs : List X) → AllByRecursion P xs
+      → AllByRecursion Q (filter test xs)
   all_passed P Q test from [] all = tt
   all_passed P Q test from (x ∷ xs) all = passed Q (test x) x (filter test xs) (λ e. from x e all.0) (all_passed P Q test from xs all.1)
 
-  pub all_tested : (Q : X → Type 0) (test : X → Bool) → ((x : X) → test x ≡ true → Q x) → (xs : List X) → AllByRecursion Q (filter test xs)
+  pub all_tested : (Q : X → Type 0) (test : X → Bool) → ((x : X) → test x ≡ true → Q x) → (xs : List X)
+      → AllByRecursion Q (filter test xs)
   all_tested Q test from [] = tt
   all_tested Q test from (x ∷ xs) = passed Q (test x) x (filter test xs) (from x) (all_tested Q test from xs)
 
   -- a filter that every element passes
   pub filter_whole : (test : X → Bool) (xs : List X) → AllByRecursion (λ x. test x ≡ true) xs → filter test xs ≡ xs
   filter_whole test [] all = refl
-  filter_whole test (x ∷ xs) all = ap (λ b. cond b (x ∷ filter test xs) (filter test xs)) all.0 ∙ ap (λ (ys : List X). x ∷ ys) (filter_whole test xs all.1)
+  filter_whole test (x ∷ xs) all =
+      ap (λ b. cond b (x ∷ filter test xs) (filter test xs)) all.0 ∙ ap (λ (ys : List X). x ∷ ys) (filter_whole test xs all.1)
 
-  kept_pairs : (R : X → X → Type 0) (b : Bool) (x : X) (rest : List X) → AllByRecursion (R x) rest → Pairwise R rest → Pairwise R (cond b (x ∷ rest) rest)
+  kept_pairs : (R : X → X → Type 0) (b : Bool) (x : X) (rest : List X) → AllByRecursion (R x) rest → Pairwise R rest
+      → Pairwise R (cond b (x ∷ rest) rest)
   kept_pairs R true x rest here pairs = (here, pairs)
   kept_pairs R false x rest here pairs = pairs
 
   pub pairs_filter : (R : X → X → Type 0) (test : X → Bool) (xs : List X) → Pairwise R xs → Pairwise R (filter test xs)
   pairs_filter R test [] pairs = tt
-  pairs_filter R test (x ∷ xs) pairs = kept_pairs R (test x) x (filter test xs) (all_filter (R x) test xs pairs.0) (pairs_filter R test xs pairs.1)
+  pairs_filter R test (x ∷ xs) pairs =
+      kept_pairs R (test x) x (filter test xs) (all_filter (R x) test xs pairs.0) (pairs_filter R test xs pairs.1)
 
   pub pairs_from : (R S : X → X → Type 0) → ((x y : X) → R x y → S x y) → (xs : List X) → Pairwise R xs → Pairwise S xs
   pairs_from R S from [] pairs = tt
   pairs_from R S from (x ∷ xs) pairs = (all_from (R x) (S x) (from x) xs pairs.0, pairs_from R S from xs pairs.1)
 
   -- what holds between any two holds between those of one class and those of another
-  pub classes_apart : (R : X → X → Type 0) → ((x y : X) → R x y → R y x) → (one more : X → Bool) (xs : List X) → AllByRecursion (λ x. one x ≡ true → more x ≡ true → ⊥) xs → Pairwise R xs → AllByRecursion (λ x. AllByRecursion (R x) (filter more xs)) (filter one xs)
+  pub classes_apart : (R : X → X → Type 0) → ((x y : X) → R x y → R y x) → (one more : X → Bool) (xs : List X)
+      → AllByRecursion (λ x. one x ≡ true → more x ≡ true → ⊥) xs → Pairwise R xs
+      → AllByRecursion (λ x. AllByRecursion (R x) (filter more xs)) (filter one xs)
   classes_apart R back one more [] apart pairs = tt
-  classes_apart R back one more (x ∷ xs) apart pairs = by_tests (classes_apart R back one more xs apart.1 pairs.1) (one x) (more x) refl refl
+  classes_apart R back one more (x ∷ xs) apart pairs =
+      by_tests (classes_apart R back one more xs apart.1 pairs.1) (one x) (more x) refl refl
     where
       by_tests : AllByRecursion (λ y. AllByRecursion (R y) (filter more xs)) (filter one xs) → (b d : Bool) → one x ≡ b → more x ≡ d
-          → AllByRecursion (λ y. AllByRecursion (R y) (cond d (x ∷ filter more xs) (filter more xs))) (cond b (x ∷ filter one xs) (filter one xs))
+          → AllByRecursion (λ y. AllByRecursion (R y) (cond d (x ∷ filter more xs) (filter more xs)))
+          (cond b (x ∷ filter one xs) (filter one xs))
       by_tests rest true true first second = absurd (apart.0 first second)
       by_tests rest true false first second = (all_filter (R x) more xs pairs.0, rest)
       by_tests rest false true first second =
-          all_from_both (λ y. R x y) (λ y. AllByRecursion (R y) (filter more xs)) (λ y. R y x × AllByRecursion (R y) (filter more xs)) (λ y r all. (back x y r, all)) (filter one xs) (all_filter (R x) one xs pairs.0) rest
+          all_from_both (λ y. R x y) (λ y. AllByRecursion (R y) (filter more xs)) (λ y. R y x × AllByRecursion (R y) (filter more xs))
+          (λ y r all. (back x y r, all)) (filter one xs) (all_filter (R x) one xs pairs.0) rest
       by_tests rest false false first second = rest
 
   -- what holds of two lists, one behind the other, holds of each, and the other way round
@@ -111,7 +123,8 @@ module _ {X : Type 0} where
   all_missed test [] none = tt
   all_missed test (x ∷ xs) none = by_test (all_missed test xs) (test x) refl none
     where
-      by_test : (find test xs ≡ None → AllByRecursion (λ y. test y ≡ false) xs) → (b : Bool) → test x ≡ b → cond b (Some x) (find test xs) ≡ None → (test x ≡ false) × AllByRecursion (λ y. test y ≡ false) xs
+      by_test : (find test xs ≡ None → AllByRecursion (λ y. test y ≡ false) xs) → (b : Bool) → test x ≡ b
+          → cond b (Some x) (find test xs) ≡ None → (test x ≡ false) × AllByRecursion (λ y. test y ≡ false) xs
       by_test rest true here found = absurd (cc found)
       by_test rest false here found = (here, rest found)
 
@@ -120,12 +133,14 @@ module _ {X : Type 0} where
   none_found test (x ∷ xs) all = ap (λ b. cond b (Some x) (find test xs)) all.0 ∙ none_found test xs all.1
 
   -- one element more, or none
-  pub length-cond : (b : Bool) (x : X) (xs : List X) → (length xs ≤ length (cond b (x ∷ xs) xs)) × (length (cond b (x ∷ xs) xs) ≤ length xs + 1)
+  pub length-cond : (b : Bool) (x : X) (xs : List X)
+      → (length xs ≤ length (cond b (x ∷ xs) xs)) × (length (cond b (x ∷ xs) xs) ≤ length xs + 1)
   length-cond true x xs = (omega arith, omega arith)
   length-cond false x xs = (omega arith, omega arith)
 
   -- what is added in front of two lists leaves one as much longer as it was
-  pub length-cond_both : (b : Bool) (x : X) (xs ys : List X) → length xs ≤ length ys + 1 → length (cond b (x ∷ xs) xs) ≤ length (cond b (x ∷ ys) ys) + 1
+  pub length-cond_both : (b : Bool) (x : X) (xs ys : List X) → length xs ≤ length ys + 1
+      → length (cond b (x ∷ xs) xs) ≤ length (cond b (x ∷ ys) ys) + 1
   length-cond_both true x xs ys longer = omega arith
   length-cond_both false x xs ys longer = longer
 
@@ -139,16 +154,20 @@ module _ {X : Type 0} where
   passing_filter test other [] = omega arith
   passing_filter test other (x ∷ xs) = by_test (passing_filter test other xs) (other x)
     where
-      by_test : length (filter test (filter other xs)) ≤ length (filter test xs) → (b : Bool) → length (filter test (cond b (x ∷ filter other xs) (filter other xs))) ≤ length (filter test (x ∷ xs))
+      by_test : length (filter test (filter other xs)) ≤ length (filter test xs) → (b : Bool)
+          → length (filter test (cond b (x ∷ filter other xs) (filter other xs))) ≤ length (filter test (x ∷ xs))
       by_test less true = in_front (test x)
         where
-          in_front : (b : Bool) → length (cond b (x ∷ filter test (filter other xs)) (filter test (filter other xs))) ≤ length (cond b (x ∷ filter test xs) (filter test xs))
+          in_front : (b : Bool) → length (cond b (x ∷ filter test (filter other xs)) (filter test (filter other xs))) ≤ length
+              (cond b (x ∷ filter test xs) (filter test xs))
           in_front true = omega (arith, less)
           in_front false = less
       by_test less false = omega (arith, less, (length-cond (test x) x (filter test xs)).0)
 
   -- a fold keeps what each of its steps keeps
-  pub fold_keeps : {S : Type 0} (Q : S → Type 0) (P : X → Type 0) (step : S → X → S) → ((state : S) (x : X) → Q state → P x → Q (step state x)) → (xs : List X) (state : S) → Q state → AllByRecursion P xs → Q (fold step state xs)
+  pub fold_keeps : {S : Type 0} (Q : S → Type 0) (P : X → Type 0) (step : S → X → S)
+      → ((state : S) (x : X) → Q state → P x → Q (step state x)) → (xs : List X) (state : S) → Q state → AllByRecursion P xs
+      → Q (fold step state xs)
   fold_keeps Q P step keeps [] state now all = now
   fold_keeps Q P step keeps (x ∷ xs) state now all = fold_keeps Q P step keeps xs (step state x) (keeps state x now all.0) all.1
 

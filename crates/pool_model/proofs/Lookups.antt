@@ -17,7 +17,8 @@ pub record IsSame {K : Type 0} (order : K → K → Ordering) (same : K → K �
   pub itself : (a : K) → same a a ≡ true
   pub back : (a b : K) → same a b ≡ same b a
 
-module _ {K X : Type 0} {order : K → K → Ordering} {same : K → K → Bool} {key_of : X → K} {put : X → List X → List X} (one : IsSame order same) (is : IsPut order key_of put) where
+module _ {K X : Type 0} {order : K → K → Ordering} {same : K → K → Bool} {key_of : X → K} {put : X → List X → List X}
+    (one : IsSame order same) (is : IsPut order key_of put) where
   abbrev Below : X → X → Type 0
   Below x y = is_lt (order (key_of x) (key_of y)) ≡ true
 
@@ -34,21 +35,26 @@ module _ {K X : Type 0} {order : K → K → Ordering} {same : K → K → Bool}
       replaced false true equal = absurd (false≢true equal)
       replaced false false equal = refl
 
-      behind : (b c : Bool) → same (key_of x) key ≡ b → same (key_of y) key ≡ c → same (key_of x) (key_of y) ≡ false → cond c (Some y) (cond b (Some x) (at key ys)) ≡ cond b (Some x) (cond c (Some y) (at key ys))
-      behind true true first second apart = absurd (false≢true (sym apart ∙ ap (same (key_of x)) (one.exact (key_of y) key second) ∙ first))
+      behind : (b c : Bool) → same (key_of x) key ≡ b → same (key_of y) key ≡ c → same (key_of x) (key_of y) ≡ false
+          → cond c (Some y) (cond b (Some x) (at key ys)) ≡ cond b (Some x) (cond c (Some y) (at key ys))
+      behind true true first second apart =
+          absurd (false≢true (sym apart ∙ ap (same (key_of x)) (one.exact (key_of y) key second) ∙ first))
       behind true false first second apart = refl
       behind false c first second apart = refl
 
       by_order : at key (put x ys) ≡ cond (same (key_of x) key) (Some x) (at key ys) → (o : Ordering) → order (key_of x) (key_of y) ≡ o
-          → at key (if is_lt o then x ∷ y ∷ ys else (if is_eq o then x ∷ ys else y ∷ put x ys)) ≡ cond (same (key_of x) key) (Some x) (cond (same (key_of y) key) (Some y) (at key ys))
+          → at key (if is_lt o then x ∷ y ∷ ys else (if is_eq o then x ∷ ys else y ∷ put x ys)) ≡ cond (same (key_of x) key) (Some x)
+          (cond (same (key_of y) key) (Some y) (at key ys))
       by_order rest Less said = refl
-      by_order rest Equal said = replaced (same (key_of x) key) (same (key_of y) key) (ap (λ k. same k key) (is.exact (key_of x) (key_of y) said))
+      by_order rest Equal said =
+          replaced (same (key_of x) key) (same (key_of y) key) (ap (λ k. same k key) (is.exact (key_of x) (key_of y) said))
       by_order rest Greater said =
           ap (cond (same (key_of y) key) (Some y)) rest
           ∙ behind (same (key_of x) key) (same (key_of y) key) refl refl (sym (one.tells (key_of x) (key_of y)) ∙ ap is_eq said)
 
   -- whether a key is there once an element was put in
-  pub any-put : (key : K) (x : X) (xs : List X) → list_any (λ y. same (key_of y) key) (put x xs) ≡ (same (key_of x) key || list_any (λ y. same (key_of y) key) xs)
+  pub any-put : (key : K) (x : X) (xs : List X)
+      → list_any (λ y. same (key_of y) key) (put x xs) ≡ (same (key_of x) key || list_any (λ y. same (key_of y) key) xs)
   any-put key x [] = ap (list_any (λ y. same (key_of y) key)) (is.alone x)
   any-put key x (y ∷ ys) = ap any (is.step x y ys) ∙ by_order (any-put key x ys) (order (key_of x) (key_of y)) refl
     where
@@ -67,13 +73,16 @@ module _ {K X : Type 0} {order : K → K → Ordering} {same : K → K → Bool}
       behind false false d = refl
 
       by_order : any (put x ys) ≡ (same (key_of x) key || any ys) → (o : Ordering) → order (key_of x) (key_of y) ≡ o
-          → any (if is_lt o then x ∷ y ∷ ys else (if is_eq o then x ∷ ys else y ∷ put x ys)) ≡ (same (key_of x) key || (same (key_of y) key || any ys))
+          → any (if is_lt o then x ∷ y ∷ ys else (if is_eq o then x ∷ ys else y ∷ put x ys))
+          ≡ (same (key_of x) key || (same (key_of y) key || any ys))
       by_order rest Less said = refl
-      by_order rest Equal said = replaced (same (key_of x) key) (same (key_of y) key) (any ys) (ap (λ k. same k key) (is.exact (key_of x) (key_of y) said))
+      by_order rest Equal said =
+          replaced (same (key_of x) key) (same (key_of y) key) (any ys) (ap (λ k. same k key) (is.exact (key_of x) (key_of y) said))
       by_order rest Greater said = ap (λ d. same (key_of y) key || d) rest ∙ behind (same (key_of x) key) (same (key_of y) key) (any ys)
 
   -- what is found once a key was taken out
-  pub at-dropped : (key gone : K) (xs : List X) → at key (filter (λ y. not (same (key_of y) gone)) xs) ≡ cond (same gone key) None (at key xs)
+  pub at-dropped : (key gone : K) (xs : List X)
+      → at key (filter (λ y. not (same (key_of y) gone)) xs) ≡ cond (same gone key) None (at key xs)
   at-dropped key gone [] = nothing (same gone key)
     where
       none : Option X
@@ -92,15 +101,20 @@ module _ {K X : Type 0} {order : K → K → Ordering} {same : K → K → Bool}
       taken false true equal = absurd (false≢true equal)
       taken false false equal = refl
 
-      stays : (b c : Bool) → same gone key ≡ b → same (key_of y) key ≡ c → same (key_of y) gone ≡ false → cond c (Some y) (cond b None (at key ys)) ≡ cond b None (cond c (Some y) (at key ys))
+      stays : (b c : Bool) → same gone key ≡ b → same (key_of y) key ≡ c → same (key_of y) gone ≡ false
+          → cond c (Some y) (cond b None (at key ys)) ≡ cond b None (cond c (Some y) (at key ys))
       stays true true first second apart = absurd (false≢true (sym apart ∙ ap (same (key_of y)) (one.exact gone key first) ∙ second))
       stays true false first second apart = refl
       stays false c first second apart = refl
 
-      by_test : at key (filter (λ z. not (same (key_of z) gone)) ys) ≡ cond (same gone key) None (at key ys) → (b : Bool) → same (key_of y) gone ≡ b
-          → at key (cond (not b) (y ∷ filter (λ z. not (same (key_of z) gone)) ys) (filter (λ z. not (same (key_of z) gone)) ys)) ≡ cond (same gone key) None (cond (same (key_of y) key) (Some y) (at key ys))
-      by_test rest true tied = rest ∙ taken (same gone key) (same (key_of y) key) (ap (λ k. same k key) (sym (one.exact (key_of y) gone tied)))
-      by_test rest false apart = ap (cond (same (key_of y) key) (Some y)) rest ∙ stays (same gone key) (same (key_of y) key) refl refl apart
+      by_test : at key (filter (λ z. not (same (key_of z) gone)) ys) ≡ cond (same gone key) None (at key ys) → (b : Bool)
+          → same (key_of y) gone ≡ b
+          → at key (cond (not b) (y ∷ filter (λ z. not (same (key_of z) gone)) ys) (filter (λ z. not (same (key_of z) gone)) ys)) ≡ cond
+          (same gone key) None (cond (same (key_of y) key) (Some y) (at key ys))
+      by_test rest true tied = rest ∙ taken (same gone key) (same (key_of y) key)
+          (ap (λ k. same k key) (sym (one.exact (key_of y) gone tied)))
+      by_test rest false apart =
+          ap (cond (same (key_of y) key) (Some y)) rest ∙ stays (same gone key) (same (key_of y) key) refl refl apart
 
   -- keys of which one is below the other differ
   pub apart_below : (x y : X) → Below x y → same (key_of x) (key_of y) ≡ false
@@ -110,7 +124,9 @@ module _ {K X : Type 0} {order : K → K → Ordering} {same : K → K → Bool}
   pub at-above : (key : K) (x : X) (xs : List X) → same (key_of x) key ≡ true → AllByRecursion (Below x) xs → at key xs ≡ None
   at-above key x xs here above =
       none_found (λ y. same (key_of y) key) xs
-      (all_from (Below x) (λ y. same (key_of y) key ≡ false) (λ y later. one.back (key_of y) key ∙ ap (λ k. same k (key_of y)) (sym (one.exact (key_of x) key here)) ∙ apart_below x y later) xs above)
+      (all_from (Below x) (λ y. same (key_of y) key ≡ false)
+      (λ y later. one.back (key_of y) key ∙ ap (λ k. same k (key_of y)) (sym (one.exact (key_of x) key here))
+      ∙ apart_below x y later) xs above)
 
   -- in a rising list each element is what is found of its key
   pub each_at : (xs : List X) → Pairwise Below xs → AllByRecursion (λ x. at (key_of x) xs ≡ Some x) xs
@@ -125,16 +141,19 @@ module _ {K X : Type 0} {order : K → K → Ordering} {same : K → K → Bool}
 
 module _ {X : Type 0} where
   -- it passes the test, and has what each element has
-  pub found_has : (P : X → Type 0) (test : X → Bool) (xs : List X) (x : X) → find test xs ≡ Some x → AllByRecursion P xs → (test x ≡ true) × P x
+  pub found_has : (P : X → Type 0) (test : X → Bool) (xs : List X) (x : X) → find test xs ≡ Some x → AllByRecursion P xs
+      → (test x ≡ true) × P x
   found_has P test [] x there all = absurd (cc there)
   found_has P test (y ∷ ys) x there all = by_test (λ later. found_has P test ys x later all.1) (test y) refl there
     where
-      by_test : (find test ys ≡ Some x → (test x ≡ true) × P x) → (b : Bool) → test y ≡ b → cond b (Some y) (find test ys) ≡ Some x → (test x ≡ true) × P x
+      by_test : (find test ys ≡ Some x → (test x ≡ true) × P x) → (b : Bool) → test y ≡ b → cond b (Some y) (find test ys) ≡ Some x
+          → (test x ≡ true) × P x
       by_test rest true passed is = let same : y ≡ x = cc in (ap test (sym same) ∙ passed, subst P same all.0)
       by_test rest false passed is = rest is
 
   -- it is found in what another test leaves, which it passes
-  pub find-filter : (test other : X → Bool) (xs : List X) (x : X) → find test xs ≡ Some x → other x ≡ true → find test (filter other xs) ≡ Some x
+  pub find-filter : (test other : X → Bool) (xs : List X) (x : X) → find test xs ≡ Some x → other x ≡ true
+      → find test (filter other xs) ≡ Some x
   find-filter test other [] x there passes = absurd (cc there)
   find-filter test other (y ∷ ys) x there passes = by_test (λ later. find-filter test other ys x later passes) (test y) refl there
     where
@@ -142,10 +161,12 @@ module _ {X : Type 0} where
       first true passed same kept = ap (λ d. cond d (Some y) (find test (filter other ys))) passed ∙ ap (λ (z : X). Some z) same
       first false passed same kept = absurd (false≢true (sym kept ∙ ap other same ∙ passes))
 
-      behind : (b : Bool) → test y ≡ false → find test (filter other ys) ≡ Some x → find test (cond b (y ∷ filter other ys) (filter other ys)) ≡ Some x
+      behind : (b : Bool) → test y ≡ false → find test (filter other ys) ≡ Some x
+          → find test (cond b (y ∷ filter other ys) (filter other ys)) ≡ Some x
       behind true failed rest = ap (λ d. cond d (Some y) (find test (filter other ys))) failed ∙ rest
       behind false failed rest = rest
 
-      by_test : (find test ys ≡ Some x → find test (filter other ys) ≡ Some x) → (b : Bool) → test y ≡ b → cond b (Some y) (find test ys) ≡ Some x → find test (cond (other y) (y ∷ filter other ys) (filter other ys)) ≡ Some x
+      by_test : (find test ys ≡ Some x → find test (filter other ys) ≡ Some x) → (b : Bool) → test y ≡ b
+          → cond b (Some y) (find test ys) ≡ Some x → find test (cond (other y) (y ∷ filter other ys) (filter other ys)) ≡ Some x
       by_test rest true passed is = let same : y ≡ x = cc in first (other y) passed same refl
       by_test rest false passed is = behind (other y) passed (rest is)

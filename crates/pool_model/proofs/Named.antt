@@ -23,7 +23,8 @@ pub keys_put : IsPut key_cmp (λ (key : Key). key) with_key
 keys_put = record { total = key_cmp_total; exact = exact_keys; alone = λ x. refl; step = λ x y ys. by_order x y ys (key_cmp x y) refl }
   where
     by_order : (x y : Key) (ys : List Key) (o : Ordering) → key_cmp x y ≡ o
-        → (if is_lt o then x ∷ y ∷ ys else (if is_eq o then y ∷ ys else y ∷ with_key x ys)) ≡ (if is_lt o then x ∷ y ∷ ys else (if is_eq o then x ∷ ys else y ∷ with_key x ys))
+        → (if is_lt o then x ∷ y ∷ ys else (if is_eq o then y ∷ ys else y ∷ with_key x ys))
+        ≡ (if is_lt o then x ∷ y ∷ ys else (if is_eq o then x ∷ ys else y ∷ with_key x ys))
     by_order x y ys Less said = refl
     by_order x y ys Equal said = ap (λ (k : Key). k ∷ ys) (sym (exact_keys x y said))
     by_order x y ys Greater said = refl
@@ -48,10 +49,12 @@ pub or_false : (b : Bool) → (b || false) ≡ b
 or_false true = refl
 or_false false = refl
 
-among_fold : (key : Key) (named keys : List Key) → is_among key (fold (λ ks k. with_key k ks) keys named) ≡ (is_among key named || is_among key keys)
+among_fold : (key : Key) (named keys : List Key)
+    → is_among key (fold (λ ks k. with_key k ks) keys named) ≡ (is_among key named || is_among key keys)
 among_fold key [] keys = refl
 among_fold key (k ∷ named) keys =
-    among_fold key named (with_key k keys) ∙ ap (λ b. is_among key named || b) (any-put keys_same keys_put key k keys) ∙ or_rotates (is_among key named) (key_eq k key) (is_among key keys)
+    among_fold key named (with_key k keys) ∙ ap (λ b. is_among key named || b) (any-put keys_same keys_put key k keys) ∙ or_rotates
+    (is_among key named) (key_eq k key) (is_among key keys)
 
 -- a key is among the sorted ones where it was named
 pub among-sorted : (key : Key) (named : List Key) → is_among key (sorted_keys named) ≡ is_among key named
@@ -61,7 +64,8 @@ among-sorted key named = among_fold key named [] ∙ or_false (is_among key name
 
 module _ (f : Key → Option Change) (own : GivesOwnChanges f) where
   -- what is found among the changes of some keys
-  pub change_at-filter_map : (key : Key) (keys : List Key) → change_at key (filter_map f keys) ≡ (if is_among key keys then f key else None)
+  pub change_at-filter_map : (key : Key) (keys : List Key)
+      → change_at key (filter_map f keys) ≡ (if is_among key keys then f key else None)
   change_at-filter_map key [] = refl
   change_at-filter_map key (k ∷ keys) = by_change (change_at-filter_map key keys) (f k) refl (key_eq k key) refl
     where
@@ -72,20 +76,25 @@ module _ (f : Key → Option Change) (own : GivesOwnChanges f) where
       at_key : key_eq k key ≡ true → f k ≡ f key
       at_key here = ap f (key_eq-true k key here)
 
-      by_change : change_at key (filter_map f keys) ≡ (if is_among key keys then f key else None) → (o : Option Change) → f k ≡ o → (b : Bool) → key_eq k key ≡ b
+      by_change : change_at key (filter_map f keys) ≡ (if is_among key keys then f key else None) → (o : Option Change) → f k ≡ o
+          → (b : Bool) → key_eq k key ≡ b
           → change_at key (cons_option o (filter_map f keys)) ≡ (if b || is_among key keys then f key else None)
       by_change rest None gives true here = rest ∙ nothing (is_among key keys) (sym (at_key here) ∙ gives)
       by_change rest None gives false here = rest
       by_change rest (Some change) gives true here =
-          ap (λ b. cond b (Some change) (change_at key (filter_map f keys))) (ap (λ (x : Key). key_eq x key) (own k change gives) ∙ here) ∙ sym gives ∙ at_key here
+          ap (λ b. cond b (Some change) (change_at key (filter_map f keys))) (ap (λ (x : Key). key_eq x key) (own k change gives) ∙ here)
+          ∙ sym gives ∙ at_key here
       by_change rest (Some change) gives false here =
-          ap (λ b. cond b (Some change) (change_at key (filter_map f keys))) (ap (λ (x : Key). key_eq x key) (own k change gives) ∙ here) ∙ rest
+          ap (λ b. cond b (Some change) (change_at key (filter_map f keys))) (ap (λ (x : Key). key_eq x key) (own k change gives) ∙ here)
+          ∙ rest
 
-  above_all : (k : Key) (keys : List Key) → AllByRecursion (KeyBelow k) keys → AllByRecursion (λ c. KeyBelow k (key_in c)) (filter_map f keys)
+  above_all : (k : Key) (keys : List Key) → AllByRecursion (KeyBelow k) keys
+      → AllByRecursion (λ c. KeyBelow k (key_in c)) (filter_map f keys)
   above_all k [] above = tt
   above_all k (key ∷ keys) above = by_change (above_all k keys above.1) (f key) refl
     where
-      by_change : AllByRecursion (λ c. KeyBelow k (key_in c)) (filter_map f keys) → (o : Option Change) → f key ≡ o → AllByRecursion (λ c. KeyBelow k (key_in c)) (cons_option o (filter_map f keys))
+      by_change : AllByRecursion (λ c. KeyBelow k (key_in c)) (filter_map f keys) → (o : Option Change) → f key ≡ o
+          → AllByRecursion (λ c. KeyBelow k (key_in c)) (cons_option o (filter_map f keys))
       by_change rest None gives = rest
       by_change rest (Some change) gives = (subst (KeyBelow k) (sym (own key change gives)) above.0, rest)
 
@@ -94,14 +103,20 @@ module _ (f : Key → Option Change) (own : GivesOwnChanges f) where
   changes_rising [] rising = tt
   changes_rising (key ∷ keys) rising = by_change (changes_rising keys rising.1) (f key) refl
     where
-      by_change : AreChangesRising (filter_map f keys) → (o : Option Change) → f key ≡ o → AreChangesRising (cons_option o (filter_map f keys))
+      by_change : AreChangesRising (filter_map f keys) → (o : Option Change) → f key ≡ o
+          → AreChangesRising (cons_option o (filter_map f keys))
       by_change rest None gives = rest
-      by_change rest (Some change) gives = (subst (λ (x : Key). AllByRecursion (λ c. KeyBelow x (key_in c)) (filter_map f keys)) (sym (own key change gives)) (above_all key keys rising.0), rest)
+      by_change rest (Some change) gives = (
+        subst (λ (x : Key). AllByRecursion (λ c. KeyBelow x (key_in c)) (filter_map f keys)) (sym (own key change gives))
+            (above_all key keys rising.0),
+        rest,
+      )
 
   -- those of named keys do
   pub named_rising : (named : List Key) → AreChangesRising (filter_map f (sorted_keys named))
   named_rising named = changes_rising (sorted_keys named) (keys_rising named)
 
   -- and a key that was named has the change that the function gives it
-  pub change_at-named : (key : Key) (named : List Key) → change_at key (filter_map f (sorted_keys named)) ≡ (if is_among key named then f key else None)
+  pub change_at-named : (key : Key) (named : List Key)
+      → change_at key (filter_map f (sorted_keys named)) ≡ (if is_among key named then f key else None)
   change_at-named key named = change_at-filter_map key (sorted_keys named) ∙ ap (λ b. if b then f key else None) (among-sorted key named)

@@ -29,10 +29,12 @@ use Rattle.pool_model.proofs.Syncing.{logged_keeps}
 abbrev flushed_home : Change → Option Home
 flushed_home change = counted (home_in change)
 
-entry_at-flush_entry : (key : Key) (entries : List Entry) (change : Change) → entry_at key (flush_entry entries change) ≡ cond (key_eq (key_in change) key) (flushed_home change) (entry_at key entries)
+entry_at-flush_entry : (key : Key) (entries : List Entry) (change : Change)
+    → entry_at key (flush_entry entries change) ≡ cond (key_eq (key_in change) key) (flushed_home change) (entry_at key entries)
 entry_at-flush_entry key entries (changes.Entry entry) = by_count (nat_lt 0 entry.home.count)
   where
-    by_count : (b : Bool) → entry_at key (if b then set_entry entry entries else drop_entry entry.key entries) ≡ cond (key_eq entry.key key) (if b then Some entry.home else None) (entry_at key entries)
+    by_count : (b : Bool) → entry_at key (if b then set_entry entry entries else drop_entry entry.key entries) ≡ cond
+        (key_eq entry.key key) (if b then Some entry.home else None) (entry_at key entries)
     by_count true = entry_at-set key entry entries
     by_count false = entry_at-drop key entry.key entries
 entry_at-flush_entry key entries (changes.Gone gone) = entry_at-drop key gone entries
@@ -41,14 +43,17 @@ abbrev ChangeBelow : Change → Change → Type 0
 ChangeBelow a b = is_lt (key_cmp (key_in a) (key_in b)) ≡ true
 
 -- a key that is in the front of a sorted log is not behind it
-front_only : (key : Key) (left rest : List Change) (change : Change) → AreChangesRising (left ++ rest) → change_at key left ≡ Some change → change_at key rest ≡ None
+front_only : (key : Key) (left rest : List Change) (change : Change) → AreChangesRising (left ++ rest) → change_at key left ≡ Some change
+    → change_at key rest ≡ None
 front_only key left rest change rising there =
-    let has = found_has (λ c. AllByRecursion (ChangeBelow c) rest) (λ c. key_eq (key_in c) key) left change there (all_behind ChangeBelow left rest rising) in
+    let has = found_has (λ c. AllByRecursion (ChangeBelow c) rest) (λ c. key_eq (key_in c) key) left change there
+    (all_behind ChangeBelow left rest rising) in
     at-above keys_same changes_put key change rest has.0 has.1
 
 -- where the front of the flushing log comes to the stored table
 by_logs : (zap : Option Home) (left rest active : Option Change) → ((change : Change) → left ≡ Some change → rest ≡ None)
-    → StaysOrGoes (found_over (found_over zap (option_or left rest)) active) (found_over (found_over (laid flushed_home zap left) rest) active)
+    → StaysOrGoes (found_over (found_over zap (option_or left rest)) active)
+    (found_over (found_over (laid flushed_home zap left) rest) active)
 by_logs zap None rest active apart = inl refl
 by_logs zap (Some change) (Some other) active apart = absurd (let none : Some other ≡ None = apart change refl in cc)
 by_logs zap (Some change) None (Some last) apart = inl refl
@@ -82,36 +87,46 @@ module _ (limit : ℕ) (table : TableState) (key : Key) (rising : AreChangesRisi
   split = subst AreChangesRising (sym whole) rising
 
   stored : entry_at key (fold flush_entry table.zap left) ≡ laid flushed_home zap (change_at key left)
-  stored = folded key flush_entry (entry_at key) flushed_home (entry_at-flush_entry key) left table.zap (pairs_front ChangeBelow left rest split)
+  stored = folded key flush_entry (entry_at key) flushed_home (entry_at-flush_entry key) left table.zap
+      (pairs_front ChangeBelow left rest split)
 
   -- changes that are flushed keep their homes, or were those of no pointer
   found-flushed : StaysOrGoes (found table key) (found (flushed limit table) key)
   found-flushed =
-      subst (λ (log : List Change). StaysOrGoes (found_over (found_over zap (change_at key log)) active) (found (flushed limit table) key)) whole
-      (subst (λ o. StaysOrGoes (found_over (found_over zap o) active) (found (flushed limit table) key)) (sym (find-append (λ c. key_eq (key_in c) key) left rest))
-      (subst (λ o. StaysOrGoes (found_over (found_over zap (option_or (change_at key left) (change_at key rest))) active) (found_over (found_over o (change_at key rest)) active)) (sym stored)
+      subst (λ (log : List Change). StaysOrGoes (found_over (found_over zap (change_at key log)) active)
+      (found (flushed limit table) key)) whole
+      (subst (λ o. StaysOrGoes (found_over (found_over zap o) active) (found (flushed limit table) key))
+      (sym (find-append (λ c. key_eq (key_in c) key) left rest))
+      (subst (λ o. StaysOrGoes (found_over (found_over zap (option_or (change_at key left) (change_at key rest))) active)
+      (found_over (found_over o (change_at key rest)) active)) (sym stored)
       (by_logs zap (change_at key left) (change_at key rest) active (λ change there. front_only key left rest change split there))))
 
 -- ---- Swapping
 
 none_of_length : (log : List Change) → (length log == 0) ≡ true → log ≡ []
 none_of_length [] none = refl
-none_of_length (change ∷ log) none = let zero_long : length (change ∷ log) ≡ 0 = eqb-true (length (change ∷ log)) 0 none in absurd (omega arith)
+none_of_length (change ∷ log) none = let zero_long : length (change ∷ log) ≡ 0 = eqb-true (length (change ∷ log)) 0 none in
+    absurd (omega arith)
 
 -- the active log takes the place of a flushing log that has nothing
 found-swapped : (table : TableState) (key : Key) → found (swapped table) key ≡ found table key
 found-swapped table key = by_due (is_due (aged table)) refl
   where
-    by_due : (b : Bool) → is_due (aged table) ≡ b → found (if b then record table { flush = table.active; active = []; age = 0; checkpoint = None } else aged table) key ≡ found table key
+    by_due : (b : Bool) → is_due (aged table) ≡ b
+        → found (if b then record table { flush = table.active; active = []; age = 0; checkpoint = None } else aged table) key
+        ≡ found table key
     by_due true due =
-        let parts = and_parts ((length table.flush == 0) && nat_lt 0 (length table.active)) (nat_le swap_keys (length table.active) || nat_le swap_age (aged table).age) due in
+        let parts = and_parts ((length table.flush == 0) && nat_lt 0 (length table.active))
+        (nat_le swap_keys (length table.active) || nat_le swap_age (aged table).age) due in
         let none = none_of_length table.flush (and_parts (length table.flush == 0) (nat_lt 0 (length table.active)) parts.0).0 in
-        sym (ap (λ (log : List Change). found_over (found_over (entry_at key table.zap) (change_at key log)) (change_at key table.active)) none)
+        sym (ap (λ (log : List Change). found_over (found_over (entry_at key table.zap) (change_at key log))
+        (change_at key table.active)) none)
     by_due false due = refl
 
 -- ---- The whole sync
 
-pub found-synced : (changes : List Change) (table : TableState) (key : Key) → IsTable table → AreChangesRising changes → StaysOrGoes (found_with changes table key) (found (sync_table changes table) key)
+pub found-synced : (changes : List Change) (table : TableState) (key : Key) → IsTable table → AreChangesRising changes
+    → StaysOrGoes (found_with changes table key) (found (sync_table changes table) key)
 found-synced changes table key is rising =
     subst (StaysOrGoes (found_with changes table key)) (sym (found-swapped (flushed (flush_limit table) (logged changes table)) key))
     (subst (λ o. StaysOrGoes o (found (flushed (flush_limit table) (logged changes table)) key)) (found-logged changes table key rising)

@@ -35,19 +35,25 @@ log_change_keeps table change is = record {
   flush_rising = pairs_filter ChangeBelow (λ c. not (key_eq (key_in c) (key_in change))) table.flush is.flush_rising;
   active_rising = rising_put changes_put change table.active is.active_rising;
   logs_apart =
-      all_passed (λ c. change_at (key_in c) table.active ≡ None) (λ c. change_at (key_in c) (set_change change table.active) ≡ None) (λ c. not (key_eq (key_in c) (key_in change)))
-      (λ c other none. still_none c (key_eq-symm (key_in change) (key_in c) ∙ not-true (key_eq (key_in c) (key_in change)) other) none) table.flush is.logs_apart;
+      all_passed (λ c. change_at (key_in c) table.active ≡ None) (λ c. change_at (key_in c) (set_change change table.active) ≡ None)
+      (λ c. not (key_eq (key_in c) (key_in change)))
+      (λ c other none. still_none c
+      (key_eq-symm (key_in change) (key_in c) ∙ not-true (key_eq (key_in c) (key_in change)) other) none) table.flush is.logs_apart;
   past = all_filter (λ c. is_past table.checkpoint (key_in c) ≡ true) (λ c. not (key_eq (key_in c) (key_in change))) table.flush is.past;
 }
   where
-    still_none : (c : Change) → key_eq (key_in change) (key_in c) ≡ false → change_at (key_in c) table.active ≡ None → change_at (key_in c) (set_change change table.active) ≡ None
+    still_none : (c : Change) → key_eq (key_in change) (key_in c) ≡ false → change_at (key_in c) table.active ≡ None
+        → change_at (key_in c) (set_change change table.active) ≡ None
     still_none c apart none =
         none_found (λ other. key_eq (key_in other) (key_in c)) (set_change change table.active)
-        (all_put changes_put (λ other. key_eq (key_in other) (key_in c) ≡ false) change table.active apart (all_missed (λ other. key_eq (key_in other) (key_in c)) table.active none))
+        (all_put changes_put (λ other. key_eq (key_in other) (key_in c) ≡ false) change table.active apart
+        (all_missed (λ other. key_eq (key_in other) (key_in c)) table.active none))
 
 -- so do all of them
 pub logged_keeps : (log : List Change) (table : TableState) → IsTable table → IsTable (logged log table)
-logged_keeps log table is = fold_keeps IsTable Anything log_change (λ state change now _. log_change_keeps state change now) log table is (all_each Anything (λ _. tt) log)
+logged_keeps log table is =
+    fold_keeps IsTable Anything log_change (λ state change now _. log_change_keeps state change now) log table is
+    (all_each Anything (λ _. tt) log)
 
 -- a stored table that is sorted, whose homes are counted
 record IsStored (zap : List Entry) : Type 0 where
@@ -77,14 +83,17 @@ last_has P o [] here all = here
 last_has P o (x ∷ left) here all = last_has P (Some x) left all.0 all.1
 
 -- what is left of a sorted log is behind the checkpoint
-behind_checkpoint : (left rest : List Change) → AreChangesRising (left ++ rest) → AllByRecursion (λ c. is_past (checkpoint_after left rest) (key_in c) ≡ true) rest
+behind_checkpoint : (left rest : List Change) → AreChangesRising (left ++ rest)
+    → AllByRecursion (λ c. is_past (checkpoint_after left rest) (key_in c) ≡ true) rest
 behind_checkpoint left [] rising = tt
-behind_checkpoint left (change ∷ rest) rising = by_last (last_or None left) (last_has BelowAll None left tt (all_behind ChangeBelow left (change ∷ rest) rising))
+behind_checkpoint left (change ∷ rest) rising =
+    by_last (last_or None left) (last_has BelowAll None left tt (all_behind ChangeBelow left (change ∷ rest) rising))
   where
     BelowAll : Change → Type 0
     BelowAll last = AllByRecursion (ChangeBelow last) (change ∷ rest)
 
-    by_last : (o : Option Change) → IfSome o BelowAll → AllByRecursion (λ c. is_past (option_map key_in o) (key_in c) ≡ true) (change ∷ rest)
+    by_last : (o : Option Change) → IfSome o BelowAll
+        → AllByRecursion (λ c. is_past (option_map key_in o) (key_in c) ≡ true) (change ∷ rest)
     by_last None below = all_each (λ c. is_past None (key_in c) ≡ true) (λ c. refl) (change ∷ rest)
     by_last (Some last) below = below
 
@@ -100,13 +109,15 @@ flushed_keeps limit table is =
       flush_rising = pairs_drop ChangeBelow limit table.flush is.flush_rising;
       active_rising = is.active_rising;
       logs_apart = all_drop (λ c. change_at (key_in c) table.active ≡ None) limit table.flush is.logs_apart;
-      past = behind_checkpoint (take limit table.flush) (drop limit table.flush) (subst AreChangesRising (sym (take-append-drop limit table.flush)) is.flush_rising);
+      past = behind_checkpoint (take limit table.flush) (drop limit table.flush)
+          (subst AreChangesRising (sym (take-append-drop limit table.flush)) is.flush_rising);
     }
 
 swapped_keeps : (table : TableState) → IsTable table → IsTable (swapped table)
 swapped_keeps table is = by_due (is_due (aged table))
   where
-    by_due : (b : Bool) → IsTable (if b then record table { flush = table.active; active = []; age = 0; checkpoint = None } else aged table)
+    by_due : (b : Bool) → IsTable
+        (if b then record table { flush = table.active; active = []; age = 0; checkpoint = None } else aged table)
     by_due true = record {
       zap_rising = is.zap_rising;
       zap_counted = is.zap_counted;
@@ -126,13 +137,17 @@ swapped_keeps table is = by_due (is_due (aged table))
 
 -- a sync leaves a sorted table sorted
 pub sync_keeps : (log : List Change) (table : TableState) → IsTable table → IsTable (sync_table log table)
-sync_keeps log table is = swapped_keeps (flushed (flush_limit table) (logged log table)) (flushed_keeps (flush_limit table) (logged log table) (logged_keeps log table is))
+sync_keeps log table is =
+    swapped_keeps (flushed (flush_limit table) (logged log table))
+    (flushed_keeps (flush_limit table) (logged log table) (logged_keeps log table is))
 
 -- ---- The checkpoint
 
 -- a checkpoint stands only beside changes that are left to flush
-pub sync_checkpoint : (log : List Change) (table : TableState) → (sync_table log table).flush ≡ [] → (sync_table log table).checkpoint ≡ None
-sync_checkpoint log table = by_due (flushed (flush_limit table) (logged log table)) (ap (checkpoint_after (take (flush_limit table) (logged log table).flush)))
+pub sync_checkpoint : (log : List Change) (table : TableState) → (sync_table log table).flush ≡ []
+    → (sync_table log table).checkpoint ≡ None
+sync_checkpoint log table =
+    by_due (flushed (flush_limit table) (logged log table)) (ap (checkpoint_after (take (flush_limit table) (logged log table).flush)))
   where
     by_due : (t : TableState) → (t.flush ≡ [] → t.checkpoint ≡ None) → (swapped t).flush ≡ [] → (swapped t).checkpoint ≡ None
     by_due t before = by_test (is_due (aged t))
@@ -171,7 +186,8 @@ module _ (P : Entry → Type 0) (Q : Change → Type 0) (entry_of : (entry : Ent
 
   flushed_each : (limit : ℕ) (table : TableState) → IsEach P Q table → IsEach P Q (flushed limit table)
   flushed_each limit table each = record {
-    zap = fold_keeps (AllByRecursion P) Q flush_entry flush_entry_each (take limit table.flush) table.zap each.zap (all_take Q limit table.flush each.flush);
+    zap = fold_keeps (AllByRecursion P) Q flush_entry flush_entry_each (take limit table.flush) table.zap each.zap
+        (all_take Q limit table.flush each.flush);
     flush = all_drop Q limit table.flush each.flush;
     active = each.active;
   }
@@ -179,7 +195,8 @@ module _ (P : Entry → Type 0) (Q : Change → Type 0) (entry_of : (entry : Ent
   swapped_each : (table : TableState) → IsEach P Q table → IsEach P Q (swapped table)
   swapped_each table each = by_due (is_due (aged table))
     where
-      by_due : (b : Bool) → IsEach P Q (if b then record table { flush = table.active; active = []; age = 0; checkpoint = None } else aged table)
+      by_due : (b : Bool) → IsEach P Q
+          (if b then record table { flush = table.active; active = []; age = 0; checkpoint = None } else aged table)
       by_due true = record { zap = each.zap; flush = each.active; active = tt }
       by_due false = record { zap = each.zap; flush = each.flush; active = each.active }
 

@@ -25,10 +25,13 @@ same_entry : (key other : Key) (home second : Home) → key ≡ other → home �
 same_entry key other home second one two = cc
 
 -- an entry that is found with this home is of this key and home
-found_entry : (key : Key) (home : Home) (entries : List Entry) → option_map (λ (e : Entry). e.home) (find (λ (e : Entry). key_eq e.key key) entries) ≡ Some home → find (λ (e : Entry). key_eq e.key key) entries ≡ Some (entry_of key home)
+found_entry : (key : Key) (home : Home) (entries : List Entry)
+    → option_map (λ (e : Entry). e.home) (find (λ (e : Entry). key_eq e.key key) entries) ≡ Some home
+    → find (λ (e : Entry). key_eq e.key key) entries ≡ Some (entry_of key home)
 found_entry key home entries there = by_entry (find (λ (e : Entry). key_eq e.key key) entries) refl there
   where
-    by_entry : (o : Option Entry) → find (λ (e : Entry). key_eq e.key key) entries ≡ o → option_map (λ (e : Entry). e.home) o ≡ Some home → o ≡ Some (entry_of key home)
+    by_entry : (o : Option Entry) → find (λ (e : Entry). key_eq e.key key) entries ≡ o → option_map (λ (e : Entry). e.home) o ≡ Some home
+        → o ≡ Some (entry_of key home)
     by_entry None is there = absurd (cc there)
     by_entry (Some e) is there =
         let has = found_has (λ _. Unit {0}) (λ (x : Entry). key_eq x.key key) entries e is (all_each (λ _. Unit {0}) (λ _. tt) entries) in
@@ -36,15 +39,18 @@ found_entry key home entries there = by_entry (find (λ (e : Entry). key_eq e.ke
         ap (λ (x : Entry). Some x) (same_entry e.key key e.home home (key_eq-true e.key key has.0) same)
 
 -- a key's home that waits is in the list of those that do
-pub found_waiting : (table : TableState) (key : Key) (home : Home) → IsTable table → found table key ≡ Some home → home.count ≡ 0 → find (λ (e : Entry). key_eq e.key key) (waiting_in table) ≡ Some (entry_of key home)
+pub found_waiting : (table : TableState) (key : Key) (home : Home) → IsTable table → found table key ≡ Some home → home.count ≡ 0
+    → find (λ (e : Entry). key_eq e.key key) (waiting_in table) ≡ Some (entry_of key home)
 found_waiting table key home is there none =
     find-filter (λ (e : Entry). key_eq e.key key) (λ (e : Entry). e.home.count == 0) (entries_found table) (entry_of key home)
     (found_entry key home (entries_found table) (sym (found-is table key is) ∙ there)) (eq-eqb home.count 0 none)
 
 -- so what holds of each that waits holds of it
-pub waiting_has : (P : Entry → Type 0) (table : TableState) (key : Key) (home : Home) → IsTable table → found table key ≡ Some home → home.count ≡ 0 → AllByRecursion P (waiting_in table) → P (entry_of key home)
+pub waiting_has : (P : Entry → Type 0) (table : TableState) (key : Key) (home : Home) → IsTable table → found table key ≡ Some home
+    → home.count ≡ 0 → AllByRecursion P (waiting_in table) → P (entry_of key home)
 waiting_has P table key home is there none all =
-    (found_has P (λ (e : Entry). key_eq e.key key) (waiting_in table) (entry_of key home) (found_waiting table key home is there none) all).1
+    (found_has P (λ (e : Entry). key_eq e.key key) (waiting_in table) (entry_of key home)
+    (found_waiting table key home is there none) all).1
 
 -- an entry's home is the one that the search finds, and no pointer is counted at it
 abbrev pub Waits : TableState → Entry → Type 0
@@ -58,15 +64,22 @@ waiting_found table is =
 
 -- and no two are of one key
 pub waiting_rising : (table : TableState) → IsTable table → AreRising (waiting_in table)
-waiting_rising table is = pairs_filter (λ (a b : Entry). is_lt (key_cmp a.key b.key) ≡ true) (λ e. e.home.count == 0) (entries_found table) (rising_found table is)
+waiting_rising table is =
+    pairs_filter (λ (a b : Entry). is_lt (key_cmp a.key b.key) ≡ true) (λ e. e.home.count == 0) (entries_found table)
+    (rising_found table is)
 
 -- the same of the homes with a group's changes
 abbrev pub WaitsWith : List Change → TableState → Entry → Type 0
 WaitsWith changes table entry = (found_with changes table entry.key ≡ Some entry.home) × (entry.home.count ≡ 0)
 
 -- each that waits after the sync waited before it, or a change left it so
-pub waiting_synced : (changes : List Change) (table : TableState) → IsTable table → AreChangesRising changes → AllByRecursion (WaitsWith changes table) (waiting_in (sync_table changes table))
+pub waiting_synced : (changes : List Change) (table : TableState) → IsTable table → AreChangesRising changes
+    → AllByRecursion (WaitsWith changes table) (waiting_in (sync_table changes table))
 waiting_synced changes table is rising =
     all_from (Waits (sync_table changes table)) (WaitsWith changes table)
-    (λ e waits. (there_stays (found_with changes table e.key) (found (sync_table changes table) e.key) e.home (found-synced changes table e.key is rising) waits.0, waits.1))
+    (λ e waits. (
+      there_stays (found_with changes table e.key) (found (sync_table changes table) e.key) e.home
+          (found-synced changes table e.key is rising) waits.0,
+      waits.1,
+    ))
     (waiting_in (sync_table changes table)) (waiting_found (sync_table changes table) (sync_keeps changes table is))

@@ -20,8 +20,10 @@ StaysOrGoes before now = (now ≡ before) ⊎ ((home : Home) × (before ≡ Some
 -- the homes of keys count exactly the live pointers, and a waiting home's place is no one else's
 pub record HomesMatch (pool : Pool) (home_at : Key → Option Home) : Type 0 where
   pub homes : (key : Key) → counted (home_at key) ≡ home_of_pointers (tracked_at pool key)
-  pub waiting : (key : Key) (home : Home) → home_at key ≡ Some home → home.count ≡ 0 → AllByRecursion (IsApartFrom (record { key = key; home = home })) pool.pointers
-  pub apart : (key other : Key) (home second : Home) → key_eq key other ≡ false → home_at key ≡ Some home → home.count ≡ 0 → home_at other ≡ Some second → second.count ≡ 0
+  pub waiting : (key : Key) (home : Home) → home_at key ≡ Some home → home.count ≡ 0
+      → AllByRecursion (IsApartFrom (record { key = key; home = home })) pool.pointers
+  pub apart : (key other : Key) (home second : Home) → key_eq key other ≡ false → home_at key ≡ Some home → home.count ≡ 0
+      → home_at other ≡ Some second → second.count ≡ 0
       → IsApart home.place (run_length key) second.place (run_length other)
 
 -- whether a key is one of these

@@ -89,6 +89,7 @@ holds_kept tag image c s holds count seals pages pointers waits =
           ap (λ (seal : Seal). seal.sectors) (seal_kept image c count tag s.pool s.table holds.state seals in_chains in_slots) ∙
           holds.sectors;
       pages =
-          ap (λ (flat : Flat). flat.named) (flat_kept image c count tag s.pool s.table holds.state seals in_chains in_slots) ∙ holds.pages;
+          ap (λ (flat : Flat). flat.named) (flat_kept image c count tag s.pool s.table holds.state seals in_chains in_slots)
+          ∙ holds.pages;
       waiting = λ key home there none. holds.waiting key home there none ∙ ap (take key.len) (sym (waits key home there none));
     }

@@ -1,9 +1,10 @@
 -- The need of a group is enough: where so many sectors are free, its blocks and the pages of its chains have room.
-use Rattle.std.proofs.Common.{◌≡◌, ℕ, ◌+◌, ◌*◌, ◌≤◌, not, List, [], ◌∷◌, length, map, ap, ◌∙◌, arith}
+use Rattle.std.proofs.Common.{◌≡◌, ℕ, ◌+◌, ◌*◌, ◌≤◌, ◌==◌, not, List, [], ◌∷◌, length, map, sym, ap, ◌∙◌, arith}
+use Rattle.std.specs.Prelude.{nat_lt}
 use Rattle.std.specs.List.{count_by}
 use Rattle.std.proofs.lemmas.Bool.Decides.{nat_tests}
 use Rattle.std.proofs.lemmas.List.{length-map}
-use Rattle.std.proofs.lemmas.List.Sums.{sum_by-cons}
+use Rattle.std.proofs.lemmas.List.Sums.{length-filter, sum_by-cons}
 use Rattle.ddt_entry.specs.Records.{record_bytes}
 use Rattle.disk_model.specs.Images.{Image}
 use Rattle.page_tree.specs.Chains.{pages_for}
@@ -11,9 +12,10 @@ use Rattle.grant_book.specs.Sectors.{marked}
 use Rattle.grant_book.proofs.MarkLaws.{free_marked}
 use Rattle.pool_model.specs.Pool.{Pool}
 use Rattle.pool_model.specs.Plain.{Stored}
-use Rattle.pool_model.specs.Space.{flush_room, need}
+use Rattle.pool_model.specs.Space.{chain_pages, flush_room, image_pages, need}
 use Rattle.pool_model.specs.Table.{TableState, flush_limit}
-use Rattle.table_state.specs.Pools.{Held, IsHeld, slots_after}
+use Rattle.table_state.specs.Pools.{Held, IsHeld, slots_after, with_blocks}
+use Rattle.table_state.specs.Flat.{pointer_of}
 use Rattle.table_state.specs.Sealed.{records_in, entry_bytes}
 use Rattle.table_state.specs.SlotRecords.{slot_bytes}
 use Rattle.table_state.specs.Tables.{unique_in, duplicate_in, table_pages}
@@ -21,7 +23,7 @@ use Rattle.table_state.specs.declared.slot_record.SlotRecord.{SlotRecord}
 use Rattle.table_state.proofs.PagesOf.{pages_within_named}
 use Rattle.table_state.proofs.SlotsAfter.{length_after}
 use Rattle.table_state.proofs.TableRoom.{pages_after_plain}
-use Rattle.table_state.specs.Closing.{PlainClosed, block_places, pages_of, records_after, table_after}
+use Rattle.table_state.specs.Closing.{PlainClosed, block_places, pages_of, pool_with, records_after, table_after}
 
 -- ---- The pages of the five chains
 
@@ -57,6 +59,26 @@ pages_of_records slots table =
     ∙ same_pages _ _ _ _ _ _ _ _ _ _ (length-map slots slot_bytes)
     (length-map (unique_in table.zap) entry_bytes) (length-map (duplicate_in table.zap) entry_bytes)
     (length-map table.active record_bytes) (length-map table.flush record_bytes)
+
+-- the pages of a pool's image are those of its slots and of its table
+pub image_pages_are : (pool : Pool) (table : TableState) → image_pages pool table ≡ pages_for (length pool.pointers) + table_pages table
+image_pages_are pool table =
+    put (pages_for (length pool.pointers)) _ _ _ _ _ _
+    (ap chain_pages (sym (length-filter (λ entry. entry.home.count == 1) table.zap)))
+    (ap chain_pages (sym (length-filter (λ entry. nat_lt 1 entry.home.count) table.zap)))
+  where
+    put : (s u d a f u' d' : ℕ) → u ≡ u' → d ≡ d' → s + u + d + a + f ≡ s + (u' + d' + a + f)
+    put s u d a f u' d' same_u same_d = omega (arith, same_u, same_d)
+
+-- so a group's chains take the pages that the image of its pool takes
+pub sealed_pages : (image : Image) (held : Held) (closed : PlainClosed)
+    → pages_of (records_after held closed) ≡ image_pages (pool_with image held closed) (table_after held closed)
+sealed_pages image held closed =
+    pages_of_records (slots_after closed.slots held.slots) (table_after held closed)
+    ∙ ap (λ n. pages_for n + table_pages (table_after held closed))
+    (sym (length-map (slots_after closed.slots held.slots)
+    (pointer_of (with_blocks closed.contents image) (table_after held closed))))
+    ∙ sym (image_pages_are (pool_with image held closed) (table_after held closed))
 
 -- ---- What is held
 

@@ -22,27 +22,36 @@ within_later sectors group group' entry later within = record {
   count = within.count;
 }
 
-change_within_later : (sectors group group' : ℕ) → group ≤ group' → (change : Change) → IsChangeWithin sectors group change → IsChangeWithin sectors group' change
+change_within_later : (sectors group group' : ℕ) → group ≤ group' → (change : Change) → IsChangeWithin sectors group change
+    → IsChangeWithin sectors group' change
 change_within_later sectors group group' later (changes.Entry entry) within = within_later sectors group group' entry later within
 change_within_later sectors group group' later (changes.Gone key) within = tt
 
 -- what is in range stays so in a later group
-pub table_within_later : (sectors group group' : ℕ) (table : TableState) → group ≤ group' → IsTableWithin sectors group table → IsTableWithin sectors group' table
+pub table_within_later : (sectors group group' : ℕ) (table : TableState) → group ≤ group' → IsTableWithin sectors group table
+    → IsTableWithin sectors group' table
 table_within_later sectors group group' table later within = record {
-  zap = all_from (IsWithin sectors group) (IsWithin sectors group') (λ entry. within_later sectors group group' entry later) table.zap within.zap;
-  flush = all_from (IsChangeWithin sectors group) (IsChangeWithin sectors group') (change_within_later sectors group group' later) table.flush within.flush;
-  active = all_from (IsChangeWithin sectors group) (IsChangeWithin sectors group') (change_within_later sectors group group' later) table.active within.active;
+  zap = all_from (IsWithin sectors group) (IsWithin sectors group')
+      (λ entry. within_later sectors group group' entry later) table.zap within.zap;
+  flush = all_from (IsChangeWithin sectors group) (IsChangeWithin sectors group')
+      (change_within_later sectors group group' later) table.flush within.flush;
+  active = all_from (IsChangeWithin sectors group) (IsChangeWithin sectors group')
+      (change_within_later sectors group group' later) table.active within.active;
 }
 
 -- a sync with changes in range leaves a table in range
-pub sync_within : (sectors group group' : ℕ) (log : List Change) (table : TableState) → group ≤ group' → IsTableWithin sectors group table → AllByRecursion (IsChangeWithin sectors group') log → IsTableWithin sectors group' (sync_table log table)
+pub sync_within : (sectors group group' : ℕ) (log : List Change) (table : TableState) → group ≤ group' → IsTableWithin sectors group table
+    → AllByRecursion (IsChangeWithin sectors group') log → IsTableWithin sectors group' (sync_table log table)
 sync_within sectors group group' log table later within all =
     let first = table_within_later sectors group group' table later within in
-    let each = sync_each (IsWithin sectors group') (IsChangeWithin sectors group') (λ entry here. here) log table (record { zap = first.zap; flush = first.flush; active = first.active }) all in
+    let each = sync_each (IsWithin sectors group') (IsChangeWithin sectors group') (λ entry here. here) log table
+    (record { zap = first.zap; flush = first.flush; active = first.active }) all in
     record { zap = each.zap; flush = each.flush; active = each.active }
 
 -- and with keys of lengths in their range, one of such keys
-pub sync_lengths : (log : List Change) (table : TableState) → HasKeyLengths table → AllByRecursion HasLength log → HasKeyLengths (sync_table log table)
+pub sync_lengths : (log : List Change) (table : TableState) → HasKeyLengths table → AllByRecursion HasLength log
+    → HasKeyLengths (sync_table log table)
 sync_lengths log table lengths all =
-    let each = sync_each (λ entry. IsKeyLength entry.key.len) HasLength (λ entry here. here) log table (record { zap = lengths.zap; flush = lengths.flush; active = lengths.active }) all in
+    let each = sync_each (λ entry. IsKeyLength entry.key.len) HasLength (λ entry here. here) log table
+    (record { zap = lengths.zap; flush = lengths.flush; active = lengths.active }) all in
     record { zap = each.zap; flush = each.flush; active = each.active }

@@ -101,14 +101,16 @@ abbrev pub is_missing : Option Change → Bool
 is_missing None = true
 is_missing (Some change) = false
 
--- the table: both classes as one, and of each log the last change of a key; of the flushing log only what is not flushed yet and the active log doesn't name
+-- the table: both classes as one, and of each log the last change of a key; of the flushing log only what is not flushed yet and the
+-- active log doesn't name
 abbrev pub table_in : Seal → Flat → TableState
 table_in seal flat =
     let active : List Change = last_changes flat.active in
     record {
       zap = fold (λ entries entry. set_entry entry entries) flat.unique flat.duplicate;
       active = active;
-      flush = filter (λ change. is_past (checkpoint_in seal) (key_in change) && is_missing (change_at (key_in change) active)) (last_changes flat.flushing);
+      flush = filter (λ change. is_past (checkpoint_in seal) (key_in change) && is_missing (change_at (key_in change) active))
+          (last_changes flat.flushing);
       age = seal.age;
       checkpoint = checkpoint_in seal;
     }

@@ -21,4 +21,5 @@ duplicate_in zap = filter (λ entry. nat_lt 1 entry.home.count) zap
 
 -- how many pages the four lists of a table take
 abbrev pub table_pages : TableState → ℕ
-table_pages table = pages_for (length (unique_in table.zap)) + pages_for (length (duplicate_in table.zap)) + pages_for (length table.active) + pages_for (length table.flush)
+table_pages table = pages_for (length (unique_in table.zap)) + pages_for (length (duplicate_in table.zap))
+    + pages_for (length table.active) + pages_for (length table.flush)

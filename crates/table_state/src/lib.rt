@@ -11,6 +11,9 @@
 //! it, and needs no word about bytes. And once the seal of a group counts, over the chains and blocks
 //! that `specs/Sealed.antt` says, the image stands for the pool of the group. `seal_form` judges a seal,
 //! `slot_record` is the record of a slot, and `sector_of` is a block as a sector has it.
+//!
+//! Lemmas in `proofs/` lead from a pool in memory that is held over an image to what a group needs of it:
+//! `SoundOf`, `SlotsOf`, `UnusedOf`, `MarksOf`, `Refilled`, `BlocksOf`, `RoomLaws`.
 #![tactic(auto)]
 
 mod block;

@@ -32,7 +32,8 @@ use Rattle.table_state.proofs.UsedLaws.{length-used_sectors, ring_is_used, slot_
 -- ---- What records spell
 
 -- what holds of each thing that bytes spell
-each_spelled : {B X Y : Type 0} (f : B → Y) (g : X → Y) (P : X → Type 0) → ((b : B) (x : X) → f b ≡ g x → P x) → (bs : List B) (xs : List X) → map f bs ≡ map g xs → AllByRecursion P xs
+each_spelled : {B X Y : Type 0} (f : B → Y) (g : X → Y) (P : X → Type 0) → ((b : B) (x : X) → f b ≡ g x → P x)
+    → (bs : List B) (xs : List X) → map f bs ≡ map g xs → AllByRecursion P xs
 each_spelled f g P from bs [] same = tt
 each_spelled f g P from [] (x ∷ xs) same = absurd (cc same)
 each_spelled f g P from (b ∷ bs) (x ∷ xs) same = (from b x (cc same), each_spelled f g P from bs xs (cc same))
@@ -43,12 +44,14 @@ same_slot a b same = ap (λ o. unwrap_or o a) same
 ranged : (sectors group : ℕ) (said slot : SlotRecord) → in_range sectors group said ≡ Some slot → is_slot sectors group slot ≡ true
 ranged sectors group said slot is = by_test (is_slot sectors group said) refl is
   where
-    by_test : (b : Bool) → is_slot sectors group said ≡ b → (if b then Some said else None) ≡ Some slot → is_slot sectors group slot ≡ true
+    by_test : (b : Bool) → is_slot sectors group said ≡ b → (if b then Some said else None) ≡ Some slot
+        → is_slot sectors group slot ≡ true
     by_test true within same = subst (λ (s : SlotRecord). is_slot sectors group s ≡ true) (same_slot said slot same) within
     by_test false within same = absurd (cc same)
 
 -- a slot that bytes spell is in its ranges
-slot_ranged : (sectors group : ℕ) (bytes : List ℕ) (slot : SlotRecord) → slot_in sectors group bytes ≡ Some slot → is_slot sectors group slot ≡ true
+slot_ranged : (sectors group : ℕ) (bytes : List ℕ) (slot : SlotRecord) → slot_in sectors group bytes ≡ Some slot
+    → is_slot sectors group slot ≡ true
 slot_ranged sectors group bytes slot is = by_kind (kind_said (kind_at bytes)) is
   where
     by_kind : (o : Option SlotKind) → slot_said sectors group o bytes ≡ Some slot → is_slot sectors group slot ≡ true
@@ -67,13 +70,19 @@ in_length len is =
     (leb-true 1 len parts.0, leb-true len 4_096 parts.1)
 
 said_length : (fields : Fields) (change : Change) → change_of fields ≡ right change → HasLength change
-said_length fields change is = by_tests (is_key_length fields.key.len) (fields.kind == 1) ((fields.kind == 2) && is_no_home fields.home) refl is
+said_length fields change is =
+    by_tests (is_key_length fields.key.len) (fields.kind == 1) ((fields.kind == 2) && is_no_home fields.home) refl is
   where
     by_tests : (len first second : Bool) → is_key_length fields.key.len ≡ len
-        → (if not len then malformed else (if first then Ok (changes.Entry (record { key = fields.key; home = fields.home })) else (if second then Ok (changes.Gone fields.key) else malformed))) ≡ right change → HasLength change
+        → (if not len then malformed else
+        (if first then Ok (changes.Entry (record { key = fields.key; home = fields.home })) else
+        (if second then Ok (changes.Gone fields.key) else malformed))) ≡ right change → HasLength change
     by_tests false first second long same = absurd (cc same)
-    by_tests true true second long same = subst HasLength (same_change (changes.Entry (record { key = fields.key; home = fields.home })) change same) (in_length fields.key.len long)
-    by_tests true false true long same = subst HasLength (same_change (changes.Gone fields.key) change same) (in_length fields.key.len long)
+    by_tests true true second long same =
+        subst HasLength (same_change (changes.Entry (record { key = fields.key; home = fields.home })) change same)
+        (in_length fields.key.len long)
+    by_tests true false true long same =
+        subst HasLength (same_change (changes.Gone fields.key) change same) (in_length fields.key.len long)
     by_tests true false false long same = absurd (cc same)
 
 -- a change that bytes spell has a key of a length that a key can have
@@ -82,21 +91,29 @@ change_length bytes change is = said_length (fields_in bytes) change is
 
 -- ---- The slots and the table that are read
 
-read_slots : (image : Image) (seal : Seal) (flat : Flat) → IsRead image seal flat → AllByRecursion (λ slot. is_slot seal.sectors seal.group slot ≡ true) flat.slots
+read_slots : (image : Image) (seal : Seal) (flat : Flat) → IsRead image seal flat
+    → AllByRecursion (λ slot. is_slot seal.sectors seal.group slot ≡ true) flat.slots
 read_slots image seal flat read =
-    each_spelled (slot_in seal.sectors seal.group) Some (λ slot. is_slot seal.sectors seal.group slot ≡ true) (slot_ranged seal.sectors seal.group) read.slots flat.slots read.slots_spelled
+    each_spelled (slot_in seal.sectors seal.group) Some
+    (λ slot. is_slot seal.sectors seal.group slot
+    ≡ true) (slot_ranged seal.sectors seal.group) read.slots flat.slots read.slots_spelled
 
 read_lengths : (image : Image) (seal : Seal) (flat : Flat) → IsRead image seal flat → HasKeyLengths (table_in seal flat)
 read_lengths image seal flat read = record {
-  zap = all_fold entries_put (λ entry. IsKeyLength entry.key.len) flat.duplicate flat.unique (entries read.duplicate flat.duplicate read.duplicate_spelled) (entries read.unique flat.unique read.unique_spelled);
+  zap = all_fold entries_put (λ entry. IsKeyLength entry.key.len) flat.duplicate flat.unique
+      (entries read.duplicate flat.duplicate read.duplicate_spelled) (entries read.unique flat.unique read.unique_spelled);
   flush =
-      all_filter HasLength (λ change. is_past (checkpoint_in seal) (key_in change) && is_missing (change_at (key_in change) (last_changes flat.active))) (last_changes flat.flushing)
+      all_filter HasLength (λ change. is_past (checkpoint_in seal) (key_in change) && is_missing
+      (change_at (key_in change) (last_changes flat.active))) (last_changes flat.flushing)
       (all_fold changes_put HasLength flat.flushing [] (logged read.flushing flat.flushing read.flushing_spelled) tt);
   active = all_fold changes_put HasLength flat.active [] (logged read.active flat.active read.active_spelled) tt;
 }
   where
-    entries : (bytes : List (List ℕ)) (es : List Entry) → map change_in bytes ≡ map (λ entry. right (changes.Entry entry)) es → AllByRecursion (λ entry. IsKeyLength entry.key.len) es
-    entries bytes es spelled = each_spelled change_in (λ entry. right (changes.Entry entry)) (λ entry. IsKeyLength entry.key.len) (λ b entry is. change_length b (changes.Entry entry) is) bytes es spelled
+    entries : (bytes : List (List ℕ)) (es : List Entry) → map change_in bytes ≡ map (λ entry. right (changes.Entry entry)) es
+        → AllByRecursion (λ entry. IsKeyLength entry.key.len) es
+    entries bytes es spelled =
+        each_spelled change_in (λ entry. right (changes.Entry entry)) (λ entry. IsKeyLength entry.key.len)
+        (λ b entry is. change_length b (changes.Entry entry) is) bytes es spelled
 
     logged : (bytes : List (List ℕ)) (log : List Change) → map change_in bytes ≡ map right log → AllByRecursion HasLength log
     logged bytes log spelled = each_spelled change_in right HasLength change_length bytes log spelled
@@ -145,7 +162,8 @@ module _ (image : Image) (held : Held) (pool : Pool) (table : TableState) (is : 
   slots_ranged =
       subst (AllByRecursion (λ slot. is_slot held.sectors held.group slot ≡ true)) (sym is.slots_are)
       (subst (λ n. AllByRecursion (λ slot. is_slot n held.group slot ≡ true) flat.slots) (sym is.sectors_are)
-      (subst (λ n. AllByRecursion (λ slot. is_slot seal.sectors n slot ≡ true) flat.slots) (sym group_same) (read_slots image seal flat is.stands.read)))
+      (subst (λ n. AllByRecursion (λ slot. is_slot seal.sectors n slot ≡ true) flat.slots) (sym group_same)
+      (read_slots image seal flat is.stands.read)))
 
   table_ranged : IsTableWithin held.sectors held.group held.table
   table_ranged =
@@ -163,7 +181,8 @@ module _ (image : Image) (held : Held) (pool : Pool) (table : TableState) (is : 
         first = subst (λ n. 1 ≤ n) (sym group_same) numbers.first;
         last = subst (λ n. n ≤ last_group) (sym group_same) numbers.last;
         used_len = ap length is.used_are ∙ length-used_sectors held.sectors held.pages pool table;
-        ring = λ sector first. ap (λ (used : List Bool). slice_index_or used sector true) is.used_are ∙ ring_is_used held.sectors held.pages pool table sector first;
+        ring = λ sector first. ap (λ (used : List Bool). slice_index_or used sector true) is.used_are
+            ∙ ring_is_used held.sectors held.pages pool table sector first;
         slots_within = slots_ranged;
         within = table_ranged;
         lengths = subst HasKeyLengths (sym table_same) (read_lengths image seal flat is.stands.read);
@@ -176,8 +195,10 @@ module _ (image : Image) (held : Held) (pool : Pool) (table : TableState) (is : 
   pub pointer_lengths : AllByRecursion (λ p. IsKeyLength p.key.len) pool.pointers
   pointer_lengths =
       subst (λ (p : Pool). AllByRecursion (λ (q : Pointer). IsKeyLength q.key.len) p.pointers) (sym is.stands.pool_is)
-      (each flat.slots (subst (AllByRecursion (λ (slot : SlotRecord). IsKeyLength slot.pointer.key.len)) is.slots_are (slot_lengths held.sectors held.group held.slots slots_ranged)))
+      (each flat.slots (subst (AllByRecursion (λ (slot : SlotRecord). IsKeyLength slot.pointer.key.len)) is.slots_are
+      (slot_lengths held.sectors held.group held.slots slots_ranged)))
     where
-      each : (slots : List SlotRecord) → AllByRecursion (λ (slot : SlotRecord). IsKeyLength slot.pointer.key.len) slots → AllByRecursion (λ (q : Pointer). IsKeyLength q.key.len) (map (pointer_of image (table_in seal flat)) slots)
+      each : (slots : List SlotRecord) → AllByRecursion (λ (slot : SlotRecord). IsKeyLength slot.pointer.key.len) slots
+          → AllByRecursion (λ (q : Pointer). IsKeyLength q.key.len) (map (pointer_of image (table_in seal flat)) slots)
       each [] all = tt
       each (slot ∷ slots) all = (all.0, each slots all.1)
