@@ -1,5 +1,6 @@
 -- A group of writes as the definitions run it, beside what the code has of it; and what the definitions' pointer of a write makes of both.
-use Rattle.std.proofs.Common.{◌≡◌, ℕ, ◌+◌, ◌&&◌, ◌||◌, Bool, true, false, cond, nat_lt, List, [], ◌∷◌, ◌++◌, length, filter, Some, Option, refl, sym, ap, suc, ◌∙◌, arith, inl, inr}
+use Rattle.std.proofs.Common.{◌≡◌, ℕ, ◌+◌, ◌&&◌, ◌||◌, Bool, true, false, cond, nat_lt, List, [], ◌∷◌, ◌++◌, length, filter, Some, Option}
+use Rattle.std.proofs.Common.{refl, sym, ap, suc, ◌∙◌, arith, inl, inr}
 use Rattle.std.specs.Prelude.{◌⊎◌}
 use Rattle.std.specs.List.{list_any}
 use Rattle.std.proofs.lemmas.Bool.Decides.{nat_tests}
@@ -23,9 +24,12 @@ use Rattle.lane_run.specs.Going.{IsCourse}
 use Rattle.lane_run.proofs.PutHomes.{entry_at-put_home}
 
 -- the home that the course knows, by its pointers
-pub homes_of : {key_of : List ℕ → Key} {image : Image} {held : Held} {s : Standing} {moment : ℕ} {others : List (List ℕ)} {live : Live} {more : List ℕ} {course : Course} → IsCourse key_of image held s moment others live more course
+pub homes_of : {key_of : List ℕ
+    → Key} {image : Image} {held : Held} {s : Standing} {moment : ℕ} {others : List
+    (List ℕ)} {live : Live} {more : List ℕ} {course : Course} → IsCourse key_of image held s moment others live more course
     → (key : Key) → home_here held.table live.homes key ≡ home_of (opening_of key_of s moment) course key
-homes_of {key_of = key_of} {s = s} {moment = moment} {course = course} w key = w.homes key ∙ home_of-known (opening_of key_of s moment) course key
+homes_of {key_of = key_of} {s = s} {moment = moment} {course = course} w key =
+    w.homes key ∙ home_of-known (opening_of key_of s moment) course key
 
 -- ---- The list of pointers that pass, with one more
 
@@ -44,7 +48,9 @@ head_inserted test p (q ∷ qs) passes = by_place (comes_before p q) refl (head_
     by_place true before has = record {
       head = p;
       rest = filter test (q ∷ qs);
-      is = ap (λ b. filter test (cond b (p ∷ q ∷ qs) (q ∷ insert_pointer p qs))) before ∙ ap (λ b. cond b (p ∷ filter test (q ∷ qs)) (filter test (q ∷ qs))) passes;
+      is =
+          ap (λ b. filter test (cond b (p ∷ q ∷ qs) (q ∷ insert_pointer p qs))) before ∙ ap
+          (λ b. cond b (p ∷ filter test (q ∷ qs)) (filter test (q ∷ qs))) passes;
       count = refl;
       either = inl refl;
     }
@@ -54,19 +60,24 @@ head_inserted test p (q ∷ qs) passes = by_place (comes_before p q) refl (head_
         by_test true fits = record {
           head = q;
           rest = filter test (insert_pointer p qs);
-          is = ap (λ b. filter test (cond b (p ∷ q ∷ qs) (q ∷ insert_pointer p qs))) behind ∙ ap (λ b. cond b (q ∷ filter test (insert_pointer p qs)) (filter test (insert_pointer p qs))) fits;
+          is =
+              ap (λ b. filter test (cond b (p ∷ q ∷ qs) (q ∷ insert_pointer p qs))) behind ∙ ap
+              (λ b. cond b (q ∷ filter test (insert_pointer p qs)) (filter test (insert_pointer p qs))) fits;
           count = ap length has.is ∙ ap suc has.count ∙ sym (ap (λ b. length (cond b (q ∷ filter test qs) (filter test qs))) fits);
           either = inr (filter test qs, ap (λ b. cond b (q ∷ filter test qs) (filter test qs)) fits);
         }
         by_test false other = record {
           head = has.head;
           rest = has.rest;
-          is = ap (λ b. filter test (cond b (p ∷ q ∷ qs) (q ∷ insert_pointer p qs))) behind ∙ ap (λ b. cond b (q ∷ filter test (insert_pointer p qs)) (filter test (insert_pointer p qs))) other ∙ has.is;
+          is =
+              ap (λ b. filter test (cond b (p ∷ q ∷ qs) (q ∷ insert_pointer p qs))) behind ∙ ap
+              (λ b. cond b (q ∷ filter test (insert_pointer p qs)) (filter test (insert_pointer p qs))) other ∙ has.is;
           count = has.count ∙ sym (ap (λ b. length (cond b (q ∷ filter test qs) (filter test qs))) other);
           either = later has.either;
         }
           where
-            later : (has.head ≡ p) ⊎ ((others : List Pointer) × (filter test qs ≡ has.head ∷ others)) → (has.head ≡ p) ⊎ ((others : List Pointer) × (filter test (q ∷ qs) ≡ has.head ∷ others))
+            later : (has.head ≡ p) ⊎ ((others : List Pointer) × (filter test qs ≡ has.head ∷ others))
+                → (has.head ≡ p) ⊎ ((others : List Pointer) × (filter test (q ∷ qs) ≡ has.head ∷ others))
             later (inl same) = inl same
             later (inr old) = inr (old.0, ap (λ b. cond b (q ∷ filter test qs) (filter test qs)) other ∙ old.1)
 
@@ -74,28 +85,34 @@ head_inserted test p (q ∷ qs) passes = by_place (comes_before p q) refl (head_
 
 -- a pointer that isn't counted under the key leaves its home
 pub home_passed : (before : Option Home) (last : Option Pointer) (test : Pointer → Bool) (p : Pointer) (ps : List Pointer) → test p ≡ false
-    → home_now (left_by before (or_in last (filter test ps))) (filter test (insert_pointer p ps)) ≡ home_now (left_by before last) (filter test ps)
+    → home_now (left_by before (or_in last (filter test ps))) (filter test (insert_pointer p ps)) ≡ home_now (left_by before last)
+    (filter test ps)
 home_passed before last test p ps fails =
     ap (home_now (left_by before (or_in last (filter test ps)))) (filter_insert test p ps fails)
     ∙ ap (λ (o : Option Home). home_now o (filter test ps)) (left_by-later before last (filter test ps))
     ∙ home_now-later (left_by before last) (filter test ps)
 
 -- the home counts the pointers
-counts_all : (left : Option Home) (ts : List Pointer) (home : Home) → home_now left ts ≡ Some home → (ts ≡ [] → home.count ≡ 0) → length ts ≡ home.count
+counts_all : (left : Option Home) (ts : List Pointer) (home : Home) → home_now left ts ≡ Some home → (ts ≡ [] → home.count ≡ 0)
+    → length ts ≡ home.count
 counts_all left [] home is none = sym (none refl)
 counts_all left (t ∷ ts) home is none = cc is
 
 -- one that is counted joins the home
-pub home_joined : (left later : Option Home) (test : Pointer → Bool) (p : Pointer) (ps : List Pointer) (home : Home) → test p ≡ true → home_now left (filter test ps) ≡ Some home → (filter test ps ≡ [] → home.count ≡ 0)
+pub home_joined : (left later : Option Home) (test : Pointer → Bool) (p : Pointer) (ps : List Pointer) (home : Home) → test p ≡ true
+    → home_now left (filter test ps) ≡ Some home → (filter test ps ≡ [] → home.count ≡ 0)
     → p.place ≡ home.place → p.birth ≡ home.birth → (nat_lt 0 home.count ≡ true → since_of p.mark ≡ home.since)
-    → home_now later (filter test (insert_pointer p ps)) ≡ Some (record { place = home.place; birth = home.birth; since = since_of p.mark; count = home.count + 1 })
+    → home_now later (filter test (insert_pointer p ps)) ≡ Some
+    (record { place = home.place; birth = home.birth; since = since_of p.mark; count = home.count + 1 })
 home_joined left later test p ps home passes is none place birth since =
     let has = head_inserted test p ps passes in
     let count : length (filter test ps) ≡ home.count = counts_all left (filter test ps) home is none in
     ap (home_now later) has.is ∙ by_head has.head has.rest has.count has.either count
   where
-    by_head : (head : Pointer) (rest : List Pointer) → length rest ≡ length (filter test ps) → (head ≡ p) ⊎ ((others : List Pointer) × (filter test ps ≡ head ∷ others)) → length (filter test ps) ≡ home.count
-        → Some (home_at head (length (head ∷ rest))) ≡ Some (record { place = home.place; birth = home.birth; since = since_of p.mark; count = home.count + 1 })
+    by_head : (head : Pointer) (rest : List Pointer) → length rest ≡ length (filter test ps)
+        → (head ≡ p) ⊎ ((others : List Pointer) × (filter test ps ≡ head ∷ others)) → length (filter test ps) ≡ home.count
+        → Some (home_at head (length (head ∷ rest))) ≡ Some
+        (record { place = home.place; birth = home.birth; since = since_of p.mark; count = home.count + 1 })
     by_head head rest same (inl own) count =
         let more : length (head ∷ rest) ≡ home.count + 1 = omega (arith, same, count) in
         let a : head.place ≡ home.place = ap (λ (q : Pointer). q.place) own ∙ place in
@@ -115,16 +132,22 @@ home_joined left later test p ps home passes is none place birth since =
 
 -- the first that is counted makes one
 pub home_made : (later : Option Home) (test : Pointer → Bool) (p : Pointer) (ps : List Pointer) → test p ≡ true → filter test ps ≡ []
-    → home_now later (filter test (insert_pointer p ps)) ≡ Some (record { place = p.place; birth = p.birth; since = since_of p.mark; count = 1 })
+    → home_now later (filter test (insert_pointer p ps)) ≡ Some
+    (record { place = p.place; birth = p.birth; since = since_of p.mark; count = 1 })
 home_made later test p ps passes none =
-    home_joined (Some (record { place = p.place; birth = p.birth; since = since_of p.mark; count = 0 })) later test p ps (record { place = p.place; birth = p.birth; since = since_of p.mark; count = 0 }) passes
-    (ap (home_now (Some (record { place = p.place; birth = p.birth; since = since_of p.mark; count = 0 }))) none) (λ _. refl) refl refl (λ some. refl)
+    home_joined (Some (record { place = p.place; birth = p.birth; since = since_of p.mark; count = 0 })) later test p ps
+    (record { place = p.place; birth = p.birth; since = since_of p.mark; count = 0 }) passes
+    (ap (home_now (Some (record { place = p.place; birth = p.birth; since = since_of p.mark; count = 0 }))) none) (λ _. refl) refl refl
+    (λ some. refl)
 
 -- what is found of a key beside the table, when a home is put
-pub home_here-put : (below : Option Home) (entry : Entry) (homes : List Entry) (key : Key) → or_below below (entry_at key (put_home entry homes)) ≡ cond (key_eq entry.key key) (Some entry.home) (or_below below (entry_at key homes))
+pub home_here-put : (below : Option Home) (entry : Entry) (homes : List Entry) (key : Key)
+    → or_below below (entry_at key (put_home entry homes)) ≡ cond (key_eq entry.key key) (Some entry.home)
+    (or_below below (entry_at key homes))
 home_here-put below entry homes key =
     ap (or_below below) (entry_at-put_home entry homes key)
-    ∙ elim (key_eq entry.key key) as (λ b. or_below below (cond b (Some entry.home) (entry_at key homes)) ≡ cond b (Some entry.home) (or_below below (entry_at key homes))) [ true ↦ refl | false ↦ refl ]
+    ∙ elim (key_eq entry.key key) as (λ b. or_below below (cond b (Some entry.home) (entry_at key homes)) ≡ cond b (Some entry.home)
+    (or_below below (entry_at key homes))) [ true ↦ refl | false ↦ refl ]
 
 -- a pointer of a key is counted under it by its mark, and under no other
 pub tracked_under : (key : Key) (p : Pointer) (b : Bool) → is_tracked p.mark ≡ b → key_eq p.key key ≡ true → tracks key p ≡ b
@@ -138,10 +161,12 @@ pub untracked_any : (key : Key) (p : Pointer) → is_tracked p.mark ≡ false �
 untracked_any key p uncounted = ap (λ b. b && key_eq p.key key) uncounted
 
 -- a test passes on a longer list where it passes on the shorter, or on the new pointer
-pub any_inserted : (test : Pointer → Bool) (p : Pointer) (ps : List Pointer) → list_any test (insert_pointer p ps) ≡ (test p || list_any test ps)
+pub any_inserted : (test : Pointer → Bool) (p : Pointer) (ps : List Pointer)
+    → list_any test (insert_pointer p ps) ≡ (test p || list_any test ps)
 any_inserted test p [] = refl
 any_inserted test p (q ∷ qs) =
-    elim (comes_before p q) as (λ b. list_any test (cond b (p ∷ q ∷ qs) (q ∷ insert_pointer p qs)) ≡ (test p || (test q || list_any test qs)))
+    elim (comes_before p q) as (λ b. list_any test
+    (cond b (p ∷ q ∷ qs) (q ∷ insert_pointer p qs)) ≡ (test p || (test q || list_any test qs)))
     [ true ↦ refl | false ↦ ap (λ b. test q || b) (any_inserted test p qs) ∙ turned (test q) (test p) (list_any test qs) ]
   where
     turned : (a b c : Bool) → (a || (b || c)) ≡ (b || (a || c))
@@ -158,7 +183,8 @@ any_appended test (y ∷ ys) x = ap (λ b. test y || b) (any_appended test ys x)
     nested false b c = refl
 
 -- a slot is taken where it was before, or by the pointer that comes
-pub taken_more : (held_slots : Bool) (changes : List SlotChange) (p : Pointer) (ps : List Pointer) (slot : ℕ) → (held_slots || list_any (is_change_at slot) changes) ≡ list_any (is_at 0 slot) ps
+pub taken_more : (held_slots : Bool) (changes : List SlotChange) (p : Pointer) (ps : List Pointer) (slot : ℕ)
+    → (held_slots || list_any (is_change_at slot) changes) ≡ list_any (is_at 0 slot) ps
     → (held_slots || list_any (is_change_at slot) (changes ++ change_to p ∷ [])) ≡ list_any (is_at 0 slot) (insert_pointer p ps)
 taken_more held_slots changes p ps slot was =
     ap (λ b. held_slots || b) (any_appended (is_change_at slot) changes (change_to p))

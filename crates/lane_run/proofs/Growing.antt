@@ -36,7 +36,8 @@ length_brought slots change pointer brings empty =
     ∙ length_inserted (changed_slot change pointer) left
     ∙ ap (λ (xs : List SlotRecord). length xs + 1)
     (filter_whole (λ held. not (is_slot_at change.lane change.slot held)) slots
-    (all_from (NotAt change.lane change.slot) (λ held. not (is_slot_at change.lane change.slot held) ≡ true) (λ held fails. ap not fails) slots empty))
+    (all_from (NotAt change.lane change.slot) (λ held. not (is_slot_at change.lane change.slot held) ≡ true)
+    (λ held fails. ap not fails) slots empty))
   where
     left : List SlotRecord
     left = filter (λ held. not (is_slot_at change.lane change.slot held)) slots
@@ -59,11 +60,13 @@ still_empty held live slot empty =
         by_pointer (Some pointer) = fails
 
 -- so a write that brings a pointer there makes one slot more
-pub one_slot_more : (held : Held) (live : Live) (change : SlotChange) (pointer : SlotPointer) → change.lane ≡ 0 → change.pointer ≡ Some pointer
+pub one_slot_more : (held : Held) (live : Live) (change : SlotChange) (pointer : SlotPointer) → change.lane ≡ 0
+    → change.pointer ≡ Some pointer
     → is_taken held live change.slot ≡ false
     → length (slots_after (live.slots ++ change ∷ []) held.slots) ≡ length (slots_after live.slots held.slots) + 1
 one_slot_more held live change pointer first brings empty =
     ap length (change_behind live.slots change held.slots)
     ∙ length_brought (slots_after live.slots held.slots) change pointer brings
-    (all_from (NotAt 0 change.slot) (NotAt change.lane change.slot) (λ s not_there. ap (λ lane. is_slot_at lane change.slot s) first ∙ not_there)
+    (all_from (NotAt 0 change.slot) (NotAt change.lane change.slot)
+    (λ s not_there. ap (λ lane. is_slot_at lane change.slot s) first ∙ not_there)
     (slots_after live.slots held.slots) (still_empty held live change.slot empty))

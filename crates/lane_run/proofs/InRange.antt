@@ -1,5 +1,6 @@
 -- What a group leaves is in its ranges, whatever the disk tells, and no home counts more pointers than there are slots.
-use Rattle.std.proofs.Common.{◌≡◌, ℕ, ◌+◌, ◌≤◌, ◌==◌, ◌&&◌, Bool, true, false, cond, List, [], ◌∷◌, fold, length, Some, None, Option, refl, sym, ap, subst, arith}
+use Rattle.std.proofs.Common.{◌≡◌, ℕ, ◌+◌, ◌≤◌, ◌==◌, ◌&&◌, Bool, true, false, cond, List, [], ◌∷◌, fold, length, Some, None, Option, refl}
+use Rattle.std.proofs.Common.{sym, ap, subst, arith}
 use Rattle.std.specs.Prelude.{if◌then◌else◌}
 use Rattle.std.specs.List.{AllByRecursion, filter_map, cons_option}
 use Rattle.std.specs.Ordering.{is_eq, is_lt}
@@ -104,11 +105,13 @@ module _ (P : Key → Type 0) where
       by_order false false rest = (all.0, rest)
 
   -- what holds of each key that was named holds of each in their sorted list
-  all_sorted : (named keys : List Key) → AllByRecursion P named → AllByRecursion P keys → AllByRecursion P (fold (λ ks key. with_key key ks) keys named)
+  all_sorted : (named keys : List Key) → AllByRecursion P named → AllByRecursion P keys
+      → AllByRecursion P (fold (λ ks key. with_key key ks) keys named)
   all_sorted [] keys each all = all
   all_sorted (key ∷ named) keys each all = all_sorted named (with_key key keys) each.1 (all_with key keys each.0 all)
 
-module _ (held : Held) (places : List ℕ) (start i : ℕ) (live : Live) (sound : IsSound held) (ranged : IsRanged held places start i live) where
+module _ (held : Held) (places : List ℕ) (start i : ℕ) (live : Live) (sound : IsSound held)
+    (ranged : IsRanged held places start i live) where
   abbrev most : ℕ
   most = length (slots_now held live)
 
@@ -119,14 +122,16 @@ module _ (held : Held) (places : List ℕ) (start i : ℕ) (live : Live) (sound 
   few = slots_bound held places start i live sound ranged.brought
 
   own : GivesOwnChanges (change_here held live)
-  own key change is = own_from key (found held.table key) (settled (held.group + 1) (found held.table key) (home_here held.table live.homes key)) change is
+  own key change is =
+      own_from key (found held.table key) (settled (held.group + 1) (found held.table key) (home_here held.table live.homes key)) change is
 
   rising : AreChangesRising (changes_here held live)
   rising = named_rising (change_here held live) own live.named
 
   change_counted : (key : Key) (change : Change) → change_here held live key ≡ Some change → Sets Counted change
   change_counted key change is =
-      sets_now Counted key (found held.table key) (settled (held.group + 1) (found held.table key) (home_here held.table live.homes key)) change
+      sets_now Counted key (found held.table key)
+      (settled (held.group + 1) (found held.table key) (home_here held.table live.homes key)) change
       (λ home left. settled_has Counted (held.group + 1) (found held.table key) (home_here held.table live.homes key) home
       (λ h was. record { start = was.start; end = was.end; born = was.born; birth = was.birth; since = was.since; count = omega arith })
       (λ h before. table_counted held most sound ranged.brought.slots_more key h before)
@@ -160,14 +165,18 @@ module _ (held : Held) (places : List ℕ) (start i : ℕ) (live : Live) (sound 
   counts_with : (key : Key) (home : Home) → found_with (changes_here held live) held.table key ≡ Some home → home.count ≤ most
   counts_with key home is = by_change (change_at key (changes_here held live)) refl is
     where
-      by_change : (o : Option Change) → change_at key (changes_here held live) ≡ o → found_over (found held.table key) o ≡ Some home → home.count ≤ most
+      by_change : (o : Option Change) → change_at key (changes_here held live) ≡ o → found_over (found held.table key) o ≡ Some home
+          → home.count ≤ most
       by_change None there gives = omega (arith, sound.counts key home gives, ranged.brought.slots_more)
       by_change (Some change) there gives =
-          counts_one change home (found_has Fits (λ (c : Change). key_eq (key_in c) key) (changes_here held live) change there all_fit).0 gives
+          counts_one change home
+          (found_has Fits (λ (c : Change). key_eq (key_in c) key) (changes_here held live) change there all_fit).0 gives
 
   pub in_range : IsInRange held (group_here held live)
   in_range = record {
-    changes = all_from Fits (IsChangeWithin held.sectors (held.group + 1)) (λ change fits. within_one change fits.0) (changes_here held live) all_fit;
+    changes =
+        all_from Fits (IsChangeWithin held.sectors (held.group + 1)) (λ change fits. within_one change fits.0)
+        (changes_here held live) all_fit;
     lengths = all_from Fits HasLength (λ change fits. fits.1) (changes_here held live) all_fit;
     slots = ranged.brought.slots_within;
     counts = λ key home is.

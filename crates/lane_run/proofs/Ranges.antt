@@ -1,5 +1,6 @@
 -- What holds of a group so far whatever the disk tells: its lists are as long as its writes allow, and its numbers are in their ranges.
-use Rattle.std.proofs.Common.{◌≡◌, ◌⊎◌, ℕ, ◌+◌, ◌^◌, ◌<◌, ◌≤◌, ◌==◌, ◌||◌, Bool, true, false, cond, List, [], ◌∷◌, ◌++◌, length, take, get_or, Some, None, Option, refl, sym, ap, subst, zero, suc, ◌∙◌, arith, length-append, ⊎_elim}
+use Rattle.std.proofs.Common.{◌≡◌, ◌⊎◌, ℕ, ◌+◌, ◌^◌, ◌<◌, ◌≤◌, ◌==◌, ◌||◌, Bool, true, false, cond, List, [], ◌∷◌, ◌++◌, length, take}
+use Rattle.std.proofs.Common.{get_or, Some, None, Option, refl, sym, ap, subst, zero, suc, ◌∙◌, arith, length-append, ⊎_elim}
 use Rattle.std.specs.Prelude.{slice_index_or, if◌then◌else◌}
 use Rattle.std.specs.List.{AllByRecursion, find, list_any, IsDistinct}
 use Rattle.std.specs.Option.{option_map}
@@ -30,7 +31,8 @@ use Rattle.table_state.proofs.SlotLaws.{is_slot-true}
 use Rattle.table_state.proofs.SlotsAfter.{rising_after, within_after, within_later}
 use Rattle.table_state.specs.Slots.{slot_of, kept_of}
 use Rattle.table_state.proofs.UnusedOf.{found_unused}
-use Rattle.lane_run.specs.Live.{Live, or_below, home_here, first_mode, is_taken, write_of, put_home, put_at, with_first, brought, shared, after_row, IsHomeOf, IsReady, IsSince}
+use Rattle.lane_run.specs.Live.{Live, or_below, home_here, first_mode, is_taken, write_of, put_home, put_at, with_first, brought, shared}
+use Rattle.lane_run.specs.Live.{after_row, IsHomeOf, IsReady, IsSince}
 use Rattle.lane_run.proofs.Growing.{one_slot_more}
 use Rattle.lane_run.proofs.Places.{IsNew, all_more}
 use Rattle.lane_run.proofs.Openings.{found_within}
@@ -128,10 +130,12 @@ is_ready held sectors places start i live sound on_disk few small ranged = recor
   blocks = ranged.brought.blocks;
 }
 
-all_put_home : (P : Home → Type 0) (entry : Entry) (es : List Entry) → P entry.home → AllByRecursion (λ e. P e.home) es → AllByRecursion (λ e. P e.home) (put_home entry es)
+all_put_home : (P : Home → Type 0) (entry : Entry) (es : List Entry) → P entry.home → AllByRecursion (λ e. P e.home) es
+    → AllByRecursion (λ e. P e.home) (put_home entry es)
 all_put_home P entry [] here all = (here, tt)
 all_put_home P entry (e ∷ es) here all =
-    elim (key_eq e.key entry.key) as (λ b. AllByRecursion (λ x. P x.home) (cond b (entry ∷ es) (e ∷ put_home entry es))) [ true ↦ (here, all.1) | false ↦ (all.0, all_put_home P entry es here all.1) ]
+    elim (key_eq e.key entry.key) as (λ b. AllByRecursion (λ x. P x.home)
+    (cond b (entry ∷ es) (e ∷ put_home entry es))) [ true ↦ (here, all.1) | false ↦ (all.0, all_put_home P entry es here all.1) ]
 
 -- ---- The next fresh place
 
@@ -140,7 +144,8 @@ at_each P [] n d below all = absurd (omega (arith, below))
 at_each P (x ∷ xs) zero d below all = all.0
 at_each P (x ∷ xs) (suc n) d below all = at_each P xs n d (omega (arith, below)) all.1
 
-not_before : (places : List ℕ) (n d : ℕ) → n < length places → IsDistinct eqb places → list_any (λ x. x == get_or places n d) (take n places) ≡ false
+not_before : (places : List ℕ) (n d : ℕ) → n < length places → IsDistinct eqb places
+    → list_any (λ x. x == get_or places n d) (take n places) ≡ false
 unfolding IsDistinct
 not_before [] n d below distinct = absurd (omega (arith, below))
 not_before (x ∷ xs) zero d below distinct = refl
@@ -148,7 +153,8 @@ not_before (x ∷ xs) (suc n) d below distinct =
     ap (λ b. b || list_any (λ y. y == get_or xs n d) (take n xs)) (at_each (λ y. eqb x y ≡ false) xs n d (omega (arith, below)) distinct.0)
     ∙ not_before xs n d (omega (arith, below)) distinct.1
 
-any_places : (contents : List Stored) (place : ℕ) → list_any (λ x. x.place == place) contents ≡ list_any (λ x. x == place) (block_places contents)
+any_places : (contents : List Stored) (place : ℕ)
+    → list_any (λ x. x.place == place) contents ≡ list_any (λ x. x == place) (block_places contents)
 any_places [] place = refl
 any_places (x ∷ xs) place = ap (λ b. (x.place == place) || b) (any_places xs place)
 
@@ -158,9 +164,12 @@ within_used (b ∷ used) zero free = omega arith
 within_used (b ∷ used) (suc place) free = omega (arith, within_used used place free)
 
 module _ (held : Held) (wanted : ℕ) (places : List ℕ) (are_free : AreFirstFree held.used wanted places) where
-  pub place_new : (contents : List Stored) (d : ℕ) → length contents < length places → block_places contents ≡ take (length contents) places → IsNew held.used contents (get_or places (length contents) d)
+  pub place_new : (contents : List Stored) (d : ℕ) → length contents < length places → block_places contents ≡ take (length contents) places
+      → IsNew held.used contents (get_or places (length contents) d)
   place_new contents d below are = record {
-    unused = at_each (λ place. slice_index_or held.used place true ≡ false) places (length contents) d below (found_unused held.used wanted places are_free);
+    unused =
+        at_each (λ place. slice_index_or held.used place true ≡ false) places (length contents) d below
+        (found_unused held.used wanted places are_free);
     no_block =
         any_places contents (get_or places (length contents) d)
         ∙ ap (list_any (λ x. x == get_or places (length contents) d)) are
@@ -176,7 +185,13 @@ module _ (held : Held) (wanted : ℕ) (places : List ℕ) (are_free : AreFirstFr
 
   pub place_within : (d n : ℕ) → n < length places → IsSound held → get_or places n d < held.sectors
   place_within d n below sound =
-      omega (arith, sound.used_len, within_used held.used (get_or places n d) (at_each (λ place. slice_index_or held.used place true ≡ false) places n d below (found_unused held.used wanted places are_free)))
+      omega (
+        arith,
+        sound.used_len,
+        within_used held.used (get_or places n d)
+            (at_each (λ place. slice_index_or held.used place true ≡ false) places n d below
+            (found_unused held.used wanted places are_free)),
+      )
 
 -- ---- One write more
 
@@ -188,7 +203,15 @@ count_more : (sectors group most more : ℕ) → most ≤ more → (es : List En
     → AllByRecursion (λ e. IsCounted sectors group more e.home) es
 count_more sectors group most more le =
     all_from (λ (e : Entry). IsCounted sectors group most e.home) (λ (e : Entry). IsCounted sectors group more e.home)
-    (λ e was. record { start = was.start; end = was.end; born = was.born; birth = was.birth; since = was.since; count = omega (arith, was.count, le) })
+    (λ e was. record {
+      start = was.start;
+      end = was.end;
+      born = was.born;
+      birth = was.birth;
+      since = was.since;
+      count = omega
+          (arith, was.count, le);
+    })
 
 one_or_none : (b : Bool) → cond b 1 0 ≤ 1
 one_or_none true = omega arith
@@ -201,7 +224,8 @@ pub record IsKeyed (slot : ℕ) (key : Key) : Type 0 where
   pub fits : KeyFits key
 
 -- a write's pointer to this place is in its ranges
-brought_within : (held : Held) → IsSound held → (slot : ℕ) (key : Key) (content : List ℕ) → IsKeyed slot key → (place birth : ℕ) (mark : Mark)
+brought_within : (held : Held) → IsSound held → (slot : ℕ) (key : Key) (content : List ℕ) → IsKeyed slot key
+    → (place birth : ℕ) (mark : Mark)
     → 32 ≤ place → place < held.sectors → 1 ≤ birth → birth ≤ held.group + 1
     → ChangesSlotWithin held.sectors (held.group + 1) (brought slot content key place birth mark)
 brought_within held sound slot key content keyed place birth mark start end born late = record {
@@ -228,7 +252,8 @@ brought_within held sound slot key content keyed place birth mark start end born
     made : SlotRecord
     made = slot_of (pointer_at (write_of slot content) key content place birth mark)
 
-module _ (held : Held) (places : List ℕ) (start i : ℕ) (live : Live) (was : HasBrought held places start i live) (sound : IsSound held) where
+module _ (held : Held) (places : List ℕ) (start i : ℕ) (live : Live) (was : HasBrought held places start i live)
+    (sound : IsSound held) where
   abbrev Counted : ℕ → Home → Type 0
   Counted most home = IsCounted held.sectors (held.group + 1) most home
 
@@ -247,7 +272,8 @@ module _ (held : Held) (places : List ℕ) (start i : ℕ) (live : Live) (was : 
     homes = was.homes;
   }
 
-  module _ (moment slot : ℕ) (early : moment < 2 ^ 40) (key : Key) (content : List ℕ) (keyed : IsKeyed slot key) (empty : is_taken held live slot ≡ false) where
+  module _ (moment slot : ℕ) (early : moment < 2 ^ 40) (key : Key) (content : List ℕ) (keyed : IsKeyed slot key)
+      (empty : is_taken held live slot ≡ false) where
     -- a pointer at a home that the key has
     at_home_brought : (place : ℕ) (home : Home) (mark : Mark) → home_here held.table live.homes key ≡ Some home
         → (since_of mark ≡ moment) ⊎ (since_of mark ≡ home.since)
@@ -256,13 +282,15 @@ module _ (held : Held) (places : List ℕ) (start i : ℕ) (live : Live) (was : 
         let counted = home_counted held places start i live sound was key home is in
         let change : SlotChange = brought slot content key home.place home.birth mark in
         let more : length (slots_after (live.slots ++ change ∷ []) held.slots) ≡ length (slots_now held live) + 1 =
-        one_slot_more held live change (kept_of (pointer_at (write_of slot content) key content home.place home.birth mark)) refl refl empty in
+        one_slot_more held live change
+        (kept_of (pointer_at (write_of slot content) key content home.place home.birth mark)) refl refl empty in
         let most : ℕ = length (slots_after (live.slots ++ change ∷ []) held.slots) in
         record {
           slots_few = omega (arith, was.slots_few, longer live.slots change);
           slots_within =
               all_more (ChangesSlotWithin held.sectors (held.group + 1)) live.slots change was.slots_within
-              (brought_within held sound slot key content keyed home.place home.birth mark counted.start counted.end counted.born counted.birth);
+              (brought_within held sound slot key content keyed home.place home.birth mark counted.start counted.end counted.born
+              counted.birth);
           slots_more = omega (arith, was.slots_more, more);
           blocks_few = omega (arith, was.blocks_few);
           places_are = was.places_are;
@@ -290,7 +318,8 @@ module _ (held : Held) (places : List ℕ) (start i : ℕ) (live : Live) (was : 
     at_fresh_brought place mark fits from within below is since =
         let change : SlotChange = brought slot content key place (held.group + 1) mark in
         let more : length (slots_after (live.slots ++ change ∷ []) held.slots) ≡ length (slots_now held live) + 1 =
-        one_slot_more held live change (kept_of (pointer_at (write_of slot content) key content place (held.group + 1) mark)) refl refl empty in
+        one_slot_more held live change
+        (kept_of (pointer_at (write_of slot content) key content place (held.group + 1) mark)) refl refl empty in
         let most : ℕ = length (slots_after (live.slots ++ change ∷ []) held.slots) in
         let stored : Stored = record { place = place; bytes = content } in
         let before : AllByRecursion (λ e. Counted most e.home) live.homes =
@@ -316,11 +345,20 @@ module _ (held : Held) (places : List ℕ) (start i : ℕ) (live : Live) (was : 
         }
       where
         by_mark : (most : ℕ) → most ≡ length (slots_now held live) + 1 → AllByRecursion (λ e. Counted most e.home) live.homes
-            → (m : Mark) → since_of m ≤ moment → AllByRecursion (λ e. Counted most e.home) (with_first key place (held.group + 1) m live.homes)
+            → (m : Mark) → since_of m ≤ moment → AllByRecursion (λ e. Counted most e.home)
+            (with_first key place (held.group + 1) m live.homes)
         by_mark most more before plain at = before
         by_mark most more before (tracked since) at =
-            all_put_home (Counted most) (record { key = key; home = record { place = place; birth = held.group + 1; since = since; count = 1 } })
-            live.homes (record { start = from; end = within; born = omega arith; birth = omega arith; since = omega (arith, at, early); count = omega (arith, more) })
+            all_put_home (Counted most)
+            (record { key = key; home = record { place = place; birth = held.group + 1; since = since; count = 1 } })
+            live.homes (record {
+              start = from;
+              end = within;
+              born = omega arith;
+              birth = omega arith;
+              since = omega (arith, at, early);
+              count = omega (arith, more);
+            })
             before
         by_mark most more before loose at = before
 
@@ -349,21 +387,26 @@ not_true : (b : Bool) → (b ≡ true → ⊥) → b ≡ false
 not_true true no_way = absurd (no_way refl)
 not_true false no_way = refl
 
-module _ (held : Held) (places : List ℕ) (start i : ℕ) (live : Live) (ranged : IsRanged held places start i live) (sound : IsSound held) where
-  module _ (moment : ℕ) (early : moment < 2 ^ 40) (slot : ℕ) (key : Key) (content : List ℕ) (keyed : IsKeyed slot key) (fits : length content ≤ 4096) (place : ℕ) (next : IsNext held places live place) where
-    spot_brought : (spot : Spot) → IsHomeOf (home_here held.table live.homes key) spot → IsSince moment spot → (is_taken held live slot ≡ true → spot ≡ nowhere)
+module _ (held : Held) (places : List ℕ) (start i : ℕ) (live : Live) (ranged : IsRanged held places start i live)
+    (sound : IsSound held) where
+  module _ (moment : ℕ) (early : moment < 2 ^ 40) (slot : ℕ) (key : Key) (content : List ℕ) (keyed : IsKeyed slot key)
+      (fits : length content ≤ 4096) (place : ℕ) (next : IsNext held places live place) where
+    spot_brought : (spot : Spot) → IsHomeOf (home_here held.table live.homes key) spot → IsSince moment spot
+        → (is_taken held live slot ≡ true → spot ≡ nowhere)
         → HasBrought held places start (i + 1) (put_at (held.group + 1) place slot key content live spot)
     spot_brought nowhere home_is since empty = still held places start i live ranged.brought sound
     spot_brought (at_home home mark) home_is since empty =
         at_home_brought held places start i live ranged.brought sound moment slot early key content keyed
-        (not_true (is_taken held live slot) (λ taken. let bad : at_home home mark ≡ nowhere = empty taken in cc)) place home mark home_is since
+        (not_true (is_taken held live slot)
+        (λ taken. let bad : at_home home mark ≡ nowhere = empty taken in cc)) place home mark home_is since
     spot_brought (at_fresh mark) home_is since empty =
         at_fresh_brought held places start i live ranged.brought sound moment slot early key content keyed
         (not_true (is_taken held live slot) (λ taken. let bad : at_fresh mark ≡ nowhere = empty taken in cc)) place mark
         fits next.start next.end next.below next.place_is since
 
     pub row_ranged : (chosen : Row) → IsHomeOf (home_here held.table live.homes key) chosen.spot → IsSince moment chosen.spot
-        → (is_taken held live slot ≡ true → chosen.spot ≡ nowhere) → IsRanged held places start (i + 1) (after_row held place slot key content live chosen)
+        → (is_taken held live slot ≡ true → chosen.spot ≡ nowhere) → IsRanged held places start (i + 1)
+        (after_row held place slot key content live chosen)
     row_ranged chosen home_is since empty =
         let put : Live = put_at (held.group + 1) place slot key content live chosen.spot in
         let later = spot_brought chosen.spot home_is since empty in
@@ -372,7 +415,10 @@ module _ (held : Held) (places : List ℕ) (start i : ℕ) (live : Live) (ranged
               longer put.replies (to_write chosen.answer)
               ∙ ap (λ rs. length rs + 1) (replies_put (held.group + 1) place slot key content live chosen.spot)
               ∙ ap (λ n. n + 1) ranged.each;
-          named = subst (AllByRecursion (λ k. IsKeyLength k.len)) (sym (ap (λ keys. with_name keys) (named_put (held.group + 1) place slot key content live chosen.spot))) (all_named (uses_table (first_mode held.modes)));
+          named =
+              subst (AllByRecursion (λ k. IsKeyLength k.len))
+              (sym (ap (λ keys. with_name keys) (named_put (held.group + 1) place slot key content live chosen.spot)))
+              (all_named (uses_table (first_mode held.modes)));
           brought = record {
             slots_few = later.slots_few;
             slots_within = later.slots_within;

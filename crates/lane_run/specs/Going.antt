@@ -1,5 +1,6 @@
 -- A group of writes of lane 0 as the definitions run it, beside what the code has of it.
-use Rattle.std.specs.Prelude.{◌≡◌, ℕ, ◌+◌, ◌-◌, ◌^◌, ◌<◌, ◌≤◌, min, ⊤, Bool, true, false, List, [], ◌∷◌, length, map, take, replicate, Option, Some, None, Result, Ok, Err, slice_index_or}
+use Rattle.std.specs.Prelude.{◌≡◌, ℕ, ◌+◌, ◌-◌, ◌^◌, ◌<◌, ◌≤◌, min, ⊤, Bool, true, false, List, [], ◌∷◌, length, map, take, replicate}
+use Rattle.std.specs.Prelude.{Option, Some, None, Result, Ok, Err, slice_index_or}
 use Rattle.std.specs.List.{AllByRecursion, count_by, list_any, zip}
 use Rattle.std.specs.Option.{option_map}
 use Rattle.ddt_entry.specs.declared.key.Key.{Key}
@@ -28,7 +29,8 @@ use Rattle.lane_run.specs.Live.{Live, is_taken, home_here, sector_here, first_mo
 abbrev pub home_known : Opening → Course → Key → Option Home
 home_known opening course key = option_map (λ known. known.home) (known_home opening course key)
 
--- what has to hold of the contents, so that a shared block is what its pointers wrote: where bytes are never compared, no content may have another's key
+-- what has to hold of the contents, so that a shared block is what its pointers wrote: where bytes are never compared, no content may have
+-- another's key
 abbrev pub Trusted : Mode → (List ℕ → Key) → Standing → (others : List (List ℕ)) → Type 0
 Trusted Off key_of s others = ⊤
 Trusted On key_of s others = AllByRecursion (HasNoOther key_of s others) others
@@ -47,7 +49,8 @@ abbrev pub NoOtherThere : (List ℕ → Key) → (content : List ℕ) → Pointe
 NoOtherThere key_of content p = key_of content ≡ p.key → content ≡ p.content
 
 -- the definitions' course beside the group so far: these fresh places are left of it
-pub record IsCourse (key_of : List ℕ → Key) (image : Image) (held : Held) (s : Standing) (moment : ℕ) (others : List (List ℕ)) (live : Live) (more : List ℕ) (course : Course) : Type 0 where
+pub record IsCourse (key_of : List ℕ → Key) (image : Image) (held : Held) (s : Standing) (moment : ℕ) (others : List (List ℕ)) (live : Live)
+    (more : List ℕ) (course : Course) : Type 0 where
   pub slots : slots_after live.slots held.slots ≡ map slot_of course.pool.pointers
   pub taken : (slot : ℕ) → is_taken held live slot ≡ list_any (is_at 0 slot) course.pool.pointers
   pub homes : (key : Key) → home_here held.table live.homes key ≡ home_known (opening_of key_of s moment) course key
@@ -72,15 +75,18 @@ turns_from tasks replies = map (λ (pair : Task × Reply). record { task = pair.
 abbrev pub first_course : (List ℕ → Key) → Standing → (moment : ℕ) → (given : List ℕ) → List Turn → Course
 first_course key_of s moment given turns = course_of (opening_of key_of s moment) s.pool (given ∷ replicate 15 []) turns
 
--- a group's writes were done: each was answered, the blocks went to the first of these places, the count of faulty reads went up with the faults, and over told contents it is as the definitions run it
-pub record HasRun (told : Option Image) (key_of : List ℕ → Key) (held : Held) (moment : ℕ) (tasks : List Task) (places : List ℕ) (before now : ℕ) (live : Live) : Type 0 where
+-- a group's writes were done: each was answered, the blocks went to the first of these places, the count of faulty reads went up with the
+-- faults, and over told contents it is as the definitions run it
+pub record HasRun (told : Option Image) (key_of : List ℕ → Key) (held : Held) (moment : ℕ) (tasks : List Task) (places : List ℕ)
+    (before now : ℕ) (live : Live) : Type 0 where
   pub each : length live.replies ≡ length tasks
   pub slots_few : length live.slots ≤ length tasks
   pub blocks_few : length live.contents ≤ length tasks
   pub places_are : block_places live.contents ≡ take (length live.contents) places
   pub counts : min (before + count_by is_fault live.replies) (2 ^ 64 - 1) ≤ now
   pub course : (image : Image) (s : Standing) → told ≡ Some image → StandsOver image held s
-      → IsCourse key_of image held s moment (contents_in tasks) live [] (first_course key_of s moment (block_places live.contents) (turns_from tasks live.replies))
+      → IsCourse key_of image held s moment (contents_in tasks) live []
+      (first_course key_of s moment (block_places live.contents) (turns_from tasks live.replies))
 
 -- the notes of a group's lanes: lane 0 alone, where it has commands
 abbrev pub lanes_here : (tasks : List Task) → List Reply → (given : List ℕ) → (faults : ℕ) → List LaneTold
@@ -111,4 +117,5 @@ HasRunOver None key_of held moment tasks places faults live = ⊤
 HasRunOver (Some image) key_of held moment tasks places faults live = HasRun (Some image) key_of held moment tasks places 0 faults live
 
 abbrev pub HasRunFree : Option Image → (List ℕ → Key) → Held → (moment : ℕ) → List Task → (faults : ℕ) → Live → Type 0
-HasRunFree told key_of held moment tasks faults live = (places : List ℕ) × AreFirstFree held.used (length tasks) places × HasRunOver told key_of held moment tasks places faults live
+HasRunFree told key_of held moment tasks faults live =
+    (places : List ℕ) × AreFirstFree held.used (length tasks) places × HasRunOver told key_of held moment tasks places faults live

@@ -35,12 +35,15 @@ KeepsWaiting image held after =
     → (slice_index_or held.used home.place true ≡ true) × (32 ≤ home.place)
     × (take key.len (after.blocks home.place) ≡ take key.len (sector_at image home.place))
 
--- the group was run from this standing: its note is the run's, its fresh places were free, what it leaves can be synced, and after that sync the run's table stands, and, where no two contents clash, the run's pool, and no home begins to wait
-pub record IsRunFrom (rules : Rules) (image : Image) (held : Held) (s : Standing) (moment : ℕ) (tasks : List Task) (told : Told) (closed : PlainClosed) : Type 0 where
+-- the group was run from this standing: its note is the run's, its fresh places were free, what it leaves can be synced, and after that
+-- sync the run's table stands, and, where no two contents clash, the run's pool, and no home begins to wait
+pub record IsRunFrom (rules : Rules) (image : Image) (held : Held) (s : Standing) (moment : ℕ) (tasks : List Task) (told : Told)
+    (closed : PlainClosed) : Type 0 where
   pub answers : AnswersAsRun rules s moment tasks told
   pub fresh : AreFresh (IsFree s) (noted_course rules s moment tasks told).given
   pub can_sync : CanSync image held closed
   pub table_is : table_after held closed ≡ (sealed_standing rules s (lanes moment tasks) told []).table
-  pub pool_is : HasNoClash rules.keying.key_of s moment tasks → pool_with image held closed ≡ (sealed_standing rules s (lanes moment tasks) told []).pool
+  pub pool_is : HasNoClash rules.keying.key_of s moment tasks
+      → pool_with image held closed ≡ (sealed_standing rules s (lanes moment tasks) told []).pool
   pub waiting : KeepsWaiting image held (sealed_standing rules s (lanes moment tasks) told [])
   pub waiting_stays : WaitingStays s (sealed_standing rules s (lanes moment tasks) told [])

@@ -1,5 +1,6 @@
 -- A group of writes of lane 0 as far as it has come, beside the pool as the newest sealed group left it: what one write makes of it.
-use Rattle.std.specs.Prelude.{◌≡◌, ◌⊎◌, ℕ, ◌+◌, ◌-◌, ◌^◌, ◌<◌, ◌≤◌, min, ⊤, Bool, true, ◌&&◌, ◌||◌, ◌==◌, List, [], ◌∷◌, ◌++◌, take, fold, length, Option, Some, None, unwrap_or, slice_get, if◌then◌else◌}
+use Rattle.std.specs.Prelude.{◌≡◌, ◌⊎◌, ℕ, ◌+◌, ◌-◌, ◌^◌, ◌<◌, ◌≤◌, min, ⊤, Bool, true, ◌&&◌, ◌||◌, ◌==◌, List, [], ◌∷◌, ◌++◌, take, fold}
+use Rattle.std.specs.Prelude.{length, Option, Some, None, unwrap_or, slice_get, if◌then◌else◌}
 use Rattle.std.specs.List.{AllByRecursion, count_by, find, filter_map, list_any}
 use Rattle.ddt_entry.specs.Keys.{key_eq}
 use Rattle.ddt_entry.specs.Records.{KeyFits}
@@ -16,13 +17,15 @@ use Rattle.pool_model.specs.declared.closed.SlotChange.{SlotChange}
 use Rattle.pool_model.specs.Pool.{Mark, plain, tracked, loose, since_of, is_tracked, with_key}
 use Rattle.pool_model.specs.Plain.{Act, write, read, free, Task, Reply, to_write, Stored}
 use Rattle.pool_model.specs.Table.{TableState, found, entry_at}
-use Rattle.pool_model.specs.Command.{Opening, Known, Spot, nowhere, at_home, at_fresh, Row, row, mode_row, allows, is_fault, uses_table, pointer_at}
+use Rattle.pool_model.specs.Command.{Opening, Known, Spot, nowhere, at_home, at_fresh, Row, row, mode_row, allows, is_fault, uses_table}
+use Rattle.pool_model.specs.Command.{pointer_at}
 use Rattle.pool_model.specs.Group.{settled, change_from}
 use Rattle.table_state.specs.Pools.{Held, is_slot_at, block_sector}
 use Rattle.table_state.specs.Closing.{PlainClosed}
 use Rattle.table_state.specs.Slots.{change_to}
 
--- what a group has come to: the changes of the slots, the blocks that it stored, the homes that it made or changed, the keys that it named, how many keys are counted, and the replies
+-- what a group has come to: the changes of the slots, the blocks that it stored, the homes that it made or changed, the keys that it
+-- named, how many keys are counted, and the replies
 pub record Live : Type 0 where
   pub slots : List SlotChange
   pub contents : List Stored
@@ -67,12 +70,15 @@ first_mode modes = unwrap_or (slice_get modes 0) On
 
 -- the group's opening, as far as the image tells it
 abbrev pub opening_over : (List ℕ → Key) → Image → Held → (moment : ℕ) → Opening
-opening_over key_of image held moment = record { key_of = key_of; table = held.table; blocks = λ place. sector_at image place; number = held.group + 1; moment = moment }
+opening_over key_of image held moment =
+    record { key_of = key_of; table = held.table; blocks = λ place. sector_at image place; number = held.group + 1; moment = moment }
 
 -- what a write into an empty slot answers, and where its pointer goes
 abbrev pub mode_here : (List ℕ → Key) → Image → Held → Live → (moment : ℕ) (content : List ℕ) (failed : Bool) → Row
 mode_here key_of image held live moment content failed =
-    mode_row (first_mode held.modes) (opening_over key_of image held moment) (known_by image live.contents (key_of content) (home_here held.table live.homes (key_of content))) content failed (allows live.keys held.quota)
+    mode_row (first_mode held.modes) (opening_over key_of image held moment)
+    (known_by image live.contents (key_of content) (home_here held.table live.homes (key_of content))) content failed
+    (allows live.keys held.quota)
 
 -- what a write into a slot of lane 0 answers, and where its pointer goes
 abbrev pub row_here : (List ℕ → Key) → Image → Held → Live → (moment slot : ℕ) (content : List ℕ) (failed : Bool) → Row
@@ -95,12 +101,14 @@ brought slot content key place birth mark = change_to (pointer_at (write_of slot
 
 -- a home with one pointer more, counted since this mark
 abbrev pub shared : Key → Home → Mark → Entry
-shared key home mark = record { key = key; home = record { place = home.place; birth = home.birth; since = since_of mark; count = home.count + 1 } }
+shared key home mark =
+    record { key = key; home = record { place = home.place; birth = home.birth; since = since_of mark; count = home.count + 1 } }
 
 -- the homes with that of a new block, where the table counts it
 abbrev pub with_first : Key → (place birth : ℕ) → Mark → List Entry → List Entry
 with_first key place birth plain homes = homes
-with_first key place birth (tracked since) homes = put_home (record { key = key; home = record { place = place; birth = birth; since = since; count = 1 } }) homes
+with_first key place birth (tracked since) homes =
+    put_home (record { key = key; home = record { place = place; birth = birth; since = since; count = 1 } }) homes
 with_first key place birth loose homes = homes
 
 -- one pointer more at the spot's home can be counted
@@ -128,17 +136,20 @@ put_at number place slot key content live (at_fresh mark) =
 
 -- with the key named, where the lane uses the table, and the answer
 abbrev pub noted : Bool → Key → Reply → Live → Live
-noted uses key reply live = record live { named = if uses then live.named ++ key ∷ [] else live.named; replies = live.replies ++ reply ∷ [] }
+noted uses key reply live =
+    record live { named = if uses then live.named ++ key ∷ [] else live.named; replies = live.replies ++ reply ∷ [] }
 
 -- a write so answered
 abbrev pub after_row : Held → (place slot : ℕ) → Key → (content : List ℕ) → Live → Row → Live
 after_row held place slot key content live chosen =
-    noted (uses_table (first_mode held.modes)) key (to_write chosen.answer) (put_at (held.group + 1) place slot key content live chosen.spot)
+    noted (uses_table (first_mode held.modes)) key (to_write chosen.answer)
+    (put_at (held.group + 1) place slot key content live chosen.spot)
 
 -- over told contents the row is the one that the definitions choose
 abbrev pub IsChosen : Option Image → (List ℕ → Key) → Held → Live → (moment slot : ℕ) (content : List ℕ) → Row → Type 0
 IsChosen None key_of held live moment slot content chosen = ⊤
-IsChosen (Some image) key_of held live moment slot content chosen = chosen ≡ row_here key_of image held live moment slot content (is_fault (to_write chosen.answer))
+IsChosen (Some image) key_of held live moment slot content chosen =
+    chosen ≡ row_here key_of image held live moment slot content (is_fault (to_write chosen.answer))
 
 -- the home at which a spot puts a pointer is this one
 abbrev pub IsHomeOf : Option Home → Spot → Type 0
@@ -157,7 +168,8 @@ abbrev pub CountsFault : (before now : ℕ) → WriteAnswer → Type 0
 CountsFault before now answer = min (before + count_by is_fault (to_write answer ∷ [])) (2 ^ 64 - 1) ≤ now
 
 -- a write was answered, with this place as the next fresh one, while the count of faulty reads went from one to the other
-pub record IsWritten (told : Option Image) (key_of : List ℕ → Key) (held : Held) (moment place slot : ℕ) (content : List ℕ) (before now : ℕ) (live next : Live) : Type 0 where
+pub record IsWritten (told : Option Image) (key_of : List ℕ → Key) (held : Held) (moment place slot : ℕ) (content : List ℕ) (before now : ℕ)
+    (live next : Live) : Type 0 where
   pub chosen : Row
   pub is_chosen : IsChosen told key_of held live moment slot content chosen
   pub home_is : IsHomeOf (home_here held.table live.homes (key_of content)) chosen.spot
@@ -168,8 +180,10 @@ pub record IsWritten (told : Option Image) (key_of : List ℕ → Key) (held : H
   pub next_is : next ≡ after_row held place slot (key_of content) content live chosen
 
 -- the same of a command; nothing else than a write is done so
-abbrev pub WritesAct : (told : Option Image) (key_of : List ℕ → Key) (held : Held) (moment place slot : ℕ) → Act → (before now : ℕ) (live next : Live) → Type 0
-WritesAct told key_of held moment place slot (write content) before now live next = IsWritten told key_of held moment place slot content before now live next
+abbrev pub WritesAct : (told : Option Image) (key_of : List ℕ → Key) (held : Held) (moment place slot : ℕ) → Act
+    → (before now : ℕ) (live next : Live) → Type 0
+WritesAct told key_of held moment place slot (write content) before now live next =
+    IsWritten told key_of held moment place slot content before now live next
 WritesAct told key_of held moment place slot read before now live next = ⊥
 WritesAct told key_of held moment place slot free before now live next = ⊥
 
@@ -183,7 +197,8 @@ pub record IsReady (held : Held) (sectors : ℕ) (live : Live) : Type 0 where
 
 -- the change of a key
 abbrev pub change_here : Held → Live → Key → Option Change
-change_here held live key = change_from key (found held.table key) (settled (held.group + 1) (found held.table key) (home_here held.table live.homes key))
+change_here held live key =
+    change_from key (found held.table key) (settled (held.group + 1) (found held.table key) (home_here held.table live.homes key))
 
 -- the changes of the table, sorted by key
 abbrev pub changes_here : Held → Live → List Change
@@ -191,4 +206,5 @@ changes_here held live = filter_map (change_here held live) (fold (λ keys key. 
 
 -- what the group leaves to its sync
 abbrev pub group_here : Held → Live → PlainClosed
-group_here held live = record { log = changes_here held live; slots = live.slots; contents = live.contents; modes = held.modes; quota = held.quota }
+group_here held live =
+    record { log = changes_here held live; slots = live.slots; contents = live.contents; modes = held.modes; quota = held.quota }

@@ -66,7 +66,8 @@ pub fn begun<D: Disk, K: KeyOf>(
     ensures stays { Stays (D.state disk.old).seen (D.state disk.new).seen }
     ensures crash { SameOutcomes (D.state disk.old).may_leave (D.state disk.new).may_leave }
     ensures any_moment { LeavesOnly (D.state disk.old) (D.state disk.new) (D.state disk.old).may_leave }
-    ensures run { IfOk result (λ done. HasRunFree (D.state disk.old).seen (K.keying keyer.now).key_of pool.now moment (map task_of commands.now) done.1 done.0) }
+    ensures run { IfOk result (λ done. HasRunFree (D.state disk.old).seen (K.keying keyer.now).key_of pool.now moment
+        (map task_of commands.now) done.1 done.0) }
     ensures in_range { IfOk result (λ done. IsInRange pool.now (group_here pool.now done.0)) }
     ensures counts { IfOk result (λ done. min ((D.state disk.old).read_faults + done.1) (2 ^ 64 - 1) ≤ (D.state disk.new).read_faults) }
     ensures reads { (D.state disk.old).read_faults ≤ (D.state disk.new).read_faults }

@@ -28,7 +28,8 @@ pub fn sector_at<D: Disk>(
 ) -> Result<[u8; SECTOR_BYTES], Failed>
     requires on_disk { place < (D.state disk.now).sectors }
     requires blocks { AllByRecursion (λ stored. length stored.bytes ≤ 4096) (map stored_of contents.now) }
-    ensures bytes { (image : Image) → (D.state disk.now).seen ≡ Some image → IfOk result (λ sector. sector ≡ sector_here image (map stored_of contents.now) place) }
+    ensures bytes { (image : Image) → (D.state disk.now).seen ≡ Some image
+        → IfOk result (λ sector. sector ≡ sector_here image (map stored_of contents.now) place) }
     ensures cause { HasCause (D.meter_faults meter.old) (D.meter_faults meter.new) result }
 {
     if let Some(stored) = stored_at(contents, place) {

@@ -21,7 +21,9 @@ fn note_lane(
     faults: u64,
 ) -> Result<(), AllocError>
     requires unnoted { note.old.lanes.items ≡ [] }
-    ensures noted { IfOk result (λ done. told_of note.new ≡ record (told_of note.old) { lanes = lanes_here (map task_of commands.now) (map reply_of answers.items) fresh.items faults }) }
+    ensures noted { IfOk result (λ done. told_of note.new ≡ record (told_of note.old) {
+      lanes = lanes_here (map task_of commands.now) (map reply_of answers.items) fresh.items faults;
+    }) }
     ensures unnoted { OnErr result (told_of note.new ≡ told_of note.old) }
     ensures still { OnErr result (note.new.lanes.items ≡ []) }
 {
@@ -53,7 +55,9 @@ pub fn ended(
     requires unnoted { note.old.lanes.items ≡ [] }
     ensures group { IfOk result (λ closed. closed_of closed ≡ group_here pool.now live) }
     ensures in_range { IfOk result (λ closed. IsInRange pool.now (closed_of closed)) }
-    ensures noted { IfOk result (λ closed. told_of note.new ≡ record (told_of note.old) { lanes = lanes_here (map task_of commands.now) live.replies (block_places live.contents) faults }) }
+    ensures noted { IfOk result (λ closed. told_of note.new ≡ record (told_of note.old) {
+      lanes = lanes_here (map task_of commands.now) live.replies (block_places live.contents) faults;
+    }) }
     ensures unnoted { OnErr result (told_of note.new ≡ told_of note.old) }
     ensures still { OnErr result (note.new.lanes.items ≡ []) }
 {

@@ -40,7 +40,8 @@ pub fn run_lane<D: Disk, K: KeyOf>(
     requires places { AreFirstFree pool.now.used (length commands.now) places.now }
     requires counted { keys ≡ length (counted_homes pool.now.table) }
     requires few_keys { keys < 2 ^ 62 }
-    ensures run { IfOk result (λ live. HasRun (D.state disk.now).seen (K.keying keyer.now).key_of pool.now moment (map task_of commands.now) places.now (D.meter_faults meter.old) (D.meter_faults meter.new) live) }
+    ensures run { IfOk result (λ live. HasRun (D.state disk.now).seen (K.keying keyer.now).key_of pool.now moment
+        (map task_of commands.now) places.now (D.meter_faults meter.old) (D.meter_faults meter.new) live) }
     ensures in_range { IfOk result (λ live. IsInRange pool.now (group_here pool.now live)) }
 {
     let mut live = LiveGroup::opened(alloc, keys, commands.len() as u64)?;

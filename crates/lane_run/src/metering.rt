@@ -34,7 +34,9 @@ pub fn opens<D: Disk>(pool: &Pool, disk: &mut D, writes: u64) -> Result<(), Grou
     ensures any_moment { LeavesOnly (D.state disk.old) (D.state disk.new) (D.state disk.old).may_leave }
     ensures reads { (D.state disk.old).read_faults ≤ (D.state disk.new).read_faults }
     ensures writes { (D.state disk.old).write_faults ≤ (D.state disk.new).write_faults }
-    ensures opens { Opens (space_lacking (count_by not pool.now.used) (need (length pool.now.pages) (flush_limit pool.now.table) writes writes)) (D.state disk.old).write_faults (D.state disk.new).write_faults result }
+    ensures opens { Opens (space_lacking (count_by not pool.now.used)
+        (need (length pool.now.pages) (flush_limit pool.now.table) writes writes))
+        (D.state disk.old).write_faults (D.state disk.new).write_faults result }
 {
     crash_laws(disk);
     let Ok(meter) = disk.meter() else {
@@ -70,7 +72,8 @@ pub fn metered<D: Disk, K: KeyOf>(
     ensures stays { Stays (D.state disk.old).seen (D.state disk.new).seen }
     ensures crash { SameOutcomes (D.state disk.old).may_leave (D.state disk.new).may_leave }
     ensures any_moment { LeavesOnly (D.state disk.old) (D.state disk.new) (D.state disk.old).may_leave }
-    ensures run { IfOk result (λ done. HasRunOver (D.state disk.old).seen (K.keying keyer.now).key_of pool.now moment (map task_of commands.now) places.now done.1 done.0) }
+    ensures run { IfOk result (λ done. HasRunOver (D.state disk.old).seen (K.keying keyer.now).key_of pool.now moment
+        (map task_of commands.now) places.now done.1 done.0) }
     ensures in_range { IfOk result (λ done. IsInRange pool.now (group_here pool.now done.0)) }
     ensures counts { IfOk result (λ done. min ((D.state disk.old).read_faults + done.1) (2 ^ 64 - 1) ≤ (D.state disk.new).read_faults) }
     ensures reads { (D.state disk.old).read_faults ≤ (D.state disk.new).read_faults }

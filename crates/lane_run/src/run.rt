@@ -54,11 +54,14 @@ pub fn run_group_plain<D: Disk, K: KeyOf>(
         → IfOk result (λ closed. IsRunFrom (lanes_in_turn (K.keying keyer.now)) image pool.now s
         group.now.moment (map task_of group.now.commands.items) (told_of note.new) (closed_of closed)) }
     ensures room { IfOk result (λ closed. space_lacking (count_by not pool.now.used)
-        (need (length pool.now.pages) (flush_limit pool.now.table) (changes_in (map task_of group.now.commands.items)) (writes_in (map task_of group.now.commands.items))) ≡ None) }
+        (need (length pool.now.pages) (flush_limit pool.now.table) (changes_in (map task_of group.now.commands.items))
+        (writes_in (map task_of group.now.commands.items))) ≡ None) }
     ensures no_space { (needed left : ℕ) → IsErrOf result (faults.NoSpace needed left) → space_lacking (count_by not pool.now.used)
-        (need (length pool.now.pages) (flush_limit pool.now.table) (changes_in (map task_of group.now.commands.items)) (writes_in (map task_of group.now.commands.items)))
+        (need (length pool.now.pages) (flush_limit pool.now.table) (changes_in (map task_of group.now.commands.items))
+        (writes_in (map task_of group.now.commands.items)))
         ≡ Some (outcomes.NoSpace needed left) }
-    ensures reads { min ((D.state disk.old).read_faults + sum_by (λ lane. lane.faults) (told_of note.new).lanes) (2 ^ 64 - 1) ≤ (D.state disk.new).read_faults }
+    ensures reads { min ((D.state disk.old).read_faults + sum_by (λ lane. lane.faults) (told_of note.new).lanes) (2 ^ 64 - 1)
+        ≤ (D.state disk.new).read_faults }
     ensures writes { (D.state disk.old).write_faults ≤ (D.state disk.new).write_faults }
     ensures opened { IsErrOf result faults.ReadFault → ⊥ }
     ensures undamaged { (sector : ℕ) → IsErrOf result (faults.Damaged sector) → ⊥ }

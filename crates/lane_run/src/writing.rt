@@ -42,7 +42,8 @@ fn write<D: Disk, K: KeyOf>(
     requires fits { length block.items ≤ 4096 }
     requires number { pool.now.group < 2 ^ 63 }
     requires ready { IsReady pool.now (D.state disk.now).sectors live }
-    ensures { IfOk result (λ next. IsWritten (D.state disk.now).seen (K.keying keyer.now).key_of pool.now moment place slot block.items (D.meter_faults meter.old) (D.meter_faults meter.new) live next) }
+    ensures { IfOk result (λ next. IsWritten (D.state disk.now).seen (K.keying keyer.now).key_of pool.now moment place slot block.items
+        (D.meter_faults meter.old) (D.meter_faults meter.new) live next) }
 {
     let key = keyer.key(block.as_slice());
     key_fits(key);
@@ -91,7 +92,8 @@ pub fn turn<D: Disk, K: KeyOf>(
     requires write { IsFirstWrite (task_of command.now) }
     requires number { pool.now.group < 2 ^ 63 }
     requires ready { IsReady pool.now (D.state disk.now).sectors live }
-    ensures { IfOk result (λ next. WritesAct (D.state disk.now).seen (K.keying keyer.now).key_of pool.now moment place command.now.slot (act_of command.now.verb) (D.meter_faults meter.old) (D.meter_faults meter.new) live next) }
+    ensures { IfOk result (λ next. WritesAct (D.state disk.now).seen (K.keying keyer.now).key_of pool.now moment place command.now.slot
+        (act_of command.now.verb) (D.meter_faults meter.old) (D.meter_faults meter.new) live next) }
 {
     let Verb::Write(payload) = &command.verb else {
         unreachable!()

@@ -13,11 +13,13 @@ returns-in-On-clause-home g c =
 pub returns-in-On-clause-since : goal.returns-in-On-clause-since
 returns-in-On-clause-since g c =
     let key = (g.K.KeyOf.keying c.args.keyer.now).key_of c.args.content.now in
-    table_since c.allows-allowed.result c.args.moment (home_here c.args.pool.now.table c.args.live.now.homes key) (row_of c.table_row.result)
+    table_since c.allows-allowed.result c.args.moment (home_here c.args.pool.now.table c.args.live.now.homes key)
+    (row_of c.table_row.result)
     (λ known is. c.table_row.ensures known (is ∙ sym (rw c.key.ensures at c.home_of-home.ensures)))
 
 pub returns-in-On-clause-counts : goal.returns-in-On-clause-counts
 returns-in-On-clause-counts g c =
     let key = (g.K.KeyOf.keying c.args.keyer.now).key_of c.args.content.now in
-    table_counts c.allows-allowed.result c.args.moment (home_here c.args.pool.now.table c.args.live.now.homes key) (row_of c.table_row.result)
+    table_counts c.allows-allowed.result c.args.moment (home_here c.args.pool.now.table c.args.live.now.homes key)
+    (row_of c.table_row.result)
     (λ known is. c.table_row.ensures known (is ∙ sym (rw c.key.ensures at c.home_of-home.ensures))) (g.D.Disk.meter_faults c.args.meter.now)
