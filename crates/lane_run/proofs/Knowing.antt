@@ -21,9 +21,9 @@ use Rattle.pool_model.specs.Command.{Opening, Course, Known, Row, Spot, nowhere,
 use Rattle.pool_model.specs.Group.{Standing, opening_of}
 use Rattle.table_state.specs.Pools.{Held}
 use Rattle.table_laws.proofs.Waiting.{waiting_has}
-use Rattle.course_laws.proofs.Pointers.{all_from, first_has, tracks-key}
-use Rattle.course_laws.proofs.Homes.{home_now}
-use Rattle.course_laws.proofs.Steps.{left_of}
+use Rattle.pool_model.proofs.Pointers.{all_from, first_has, tracks-key}
+use Rattle.pool_model.proofs.Homes.{home_now}
+use Rattle.pool_model.proofs.Putting.{left_of}
 use Rattle.lane_run.specs.Groups.{StandsOver}
 use Rattle.lane_run.specs.Live.{Live, home_here, sector_or, sector_here, known_by, first_mode, opening_over}
 use Rattle.lane_run.proofs.Places.{find_none, not_used}

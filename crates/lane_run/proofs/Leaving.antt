@@ -42,15 +42,15 @@ use Rattle.table_laws.proofs.Matching.{matches_synced}
 use Rattle.table_laws.proofs.Synced.{found-synced, there_stays}
 use Rattle.table_laws.proofs.Waiting.{waiting_has, waiting_found, waiting_synced}
 use Rattle.table_state.proofs.Syncing.{sync_keeps}
-use Rattle.run_laws.specs.Items.{IsIn, WaitingStays}
-use Rattle.run_laws.proofs.Clashes.{all_in}
-use Rattle.run_laws.proofs.Kept.{waiting_stays}
-use Rattle.course_laws.specs.ByKey.{IsUnnamedByKey, AreFreshByKey, ChangesByKey, MatchesByKey, home_after, IsWrite}
-use Rattle.course_laws.proofs.Pointers.{all_from}
-use Rattle.course_laws.proofs.Counts.{course_counts}
-use Rattle.course_laws.proofs.Aside.{before_opened}
-use Rattle.course_laws.proofs.Going.{IsGoing, going_all, going_matches}
-use Rattle.course_laws.proofs.Writing.{kept_formed, written_all, written_waits}
+use Rattle.pool_model.specs.Waiting.{IsIn, WaitingStays}
+use Rattle.pool_model.proofs.Clashes.{all_in}
+use Rattle.pool_model.proofs.Kept.{waiting_stays}
+use Rattle.pool_model.specs.ByKey.{IsUnnamedByKey, AreFreshByKey, ChangesByKey, MatchesByKey, home_after, IsWrite}
+use Rattle.pool_model.proofs.Pointers.{all_from}
+use Rattle.pool_model.proofs.Counts.{course_counts}
+use Rattle.pool_model.proofs.Aside.{before_opened}
+use Rattle.pool_model.proofs.Going.{IsGoing, going_all, going_matches}
+use Rattle.pool_model.proofs.Writing.{kept_formed, written_all, written_waits}
 use Rattle.lane_run.specs.Groups.{StandsOver, IsFirstWrite, WritesBlock}
 use Rattle.lane_run.specs.Going.{IsCourse, IsPlaced, Stands, Trusted, turns_from, first_course}
 use Rattle.lane_run.specs.Live.{Live, sector_or, sector_here, first_mode, changes_here, group_here}

@@ -21,9 +21,9 @@ use Rattle.held_laws.proofs.SlotsOf.{held_slots}
 use Rattle.held_laws.proofs.SoundOf.{pointer_lengths}
 use Rattle.held_laws.proofs.UnusedOf.{unused_free}
 use Rattle.table_laws.proofs.Keys.{keys_are_counted_homes}
-use Rattle.course_laws.proofs.Pointers.{all_from_both}
-use Rattle.course_laws.proofs.Homes.{matched_home}
-use Rattle.course_laws.proofs.Steps.{home_of-known}
+use Rattle.pool_model.proofs.Pointers.{all_from_both}
+use Rattle.pool_model.proofs.Homes.{matched_home}
+use Rattle.pool_model.proofs.Putting.{home_of-known}
 use Rattle.lane_run.specs.Groups.{StandsOver}
 use Rattle.lane_run.specs.Going.{IsCourse, IsPlaced, Stands}
 use Rattle.lane_run.specs.Live.{Live}

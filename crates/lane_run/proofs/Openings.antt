@@ -25,7 +25,7 @@ use Rattle.held_laws.proofs.UnusedOf.{unused_free}
 use Rattle.table_laws.specs.Homes.{HomesMatch}
 use Rattle.table_laws.proofs.Waiting.{waiting_has}
 use Rattle.table_laws.proofs.Matching.{matches_read}
-use Rattle.course_laws.specs.ByKey.{MatchesByKey}
+use Rattle.pool_model.specs.ByKey.{MatchesByKey}
 use Rattle.lane_run.specs.Groups.{StandsOver}
 use Rattle.lane_run.proofs.Places.{used_either}
 use Rattle.lane_run.proofs.Stored.{found_has}

@@ -19,7 +19,7 @@ use Rattle.table_state.specs.Pools.{Held}
 use Rattle.table_state.specs.Sound.{IsSound}
 use Rattle.txg_sync.specs.Writing.{block_places}
 use Rattle.held_laws.proofs.UnusedOf.{found_unused}
-use Rattle.course_laws.proofs.Pointers.{all_from}
+use Rattle.pool_model.proofs.Pointers.{all_from}
 use Rattle.lane_run.specs.Live.{Live, or_below, home_here, put_home, put_at, with_first, brought, shared, after_row, IsHomeOf, IsReady}
 use Rattle.lane_run.proofs.Places.{IsNew, all_more}
 use Rattle.lane_run.proofs.Openings.{found_within}

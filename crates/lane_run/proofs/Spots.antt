@@ -23,10 +23,10 @@ use Rattle.held_laws.specs.Slots.{slot_of, change_to}
 use Rattle.held_laws.proofs.SlotsOf.{slot_set, change_behind}
 use Rattle.held_laws.proofs.BlocksOf.{block_cut}
 use Rattle.table_laws.proofs.Keys.{keys_in-untracked, length-keys_in_new, keys_in-counted}
-use Rattle.course_laws.proofs.Pointers.{all_insert, all_from, all_from_both, none_insert, first_has}
-use Rattle.course_laws.proofs.Homes.{left_by, home_now, none_now, uncounted_zero}
-use Rattle.course_laws.proofs.Rows.{FitsHome, FitsFresh, outside, first}
-use Rattle.course_laws.proofs.Steps.{left_of, home_of, home_of-known}
+use Rattle.pool_model.proofs.Pointers.{all_insert, all_from, all_from_both, none_insert, first_has}
+use Rattle.pool_model.proofs.Homes.{left_by, home_now, none_now, uncounted_zero}
+use Rattle.pool_model.proofs.Rows.{FitsHome, FitsFresh, outside, first}
+use Rattle.pool_model.proofs.Putting.{left_of, home_of, home_of-known}
 use Rattle.lane_run.specs.Groups.{StandsOver}
 use Rattle.lane_run.specs.Live.{Live, home_here, sector_or, sector_here, first_mode, put_home, write_of, shared, with_first, put_at, noted}
 use Rattle.lane_run.proofs.Places.{IsNew, new_elsewhere, named_more, find_beside, find_new, any_last, all_more}

@@ -28,7 +28,7 @@ use Rattle.lane_run.specs.Groups.{StandsOver, IsFirstWrite, WritesBlock, HasNoCl
 use Rattle.lane_run.specs.Going.{IsCourse, Trusted, turns_from, first_course, HasRun, HasRunOver, Opens, lanes_here}
 use Rattle.lane_run.specs.Live.{Live, first_mode, group_here}
 use Rattle.lane_run.proofs.Leaving.{fresh_given, table_is, pool_stands, can_sync, keeps_waiting, stays_waiting}
-use Rattle.run_laws.specs.Items.{WaitingStays}
+use Rattle.pool_model.specs.Waiting.{WaitingStays}
 
 -- ---- Lane 0 alone
 

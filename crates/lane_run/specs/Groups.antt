@@ -9,7 +9,7 @@ use Rattle.pool_model.specs.Table.{found}
 use Rattle.pool_model.specs.Clash.{HasNoOther, part_trusted, contents_in}
 use Rattle.pool_model.specs.Group.{Standing, AreFresh, IsFree, lane_by_lane}
 use Rattle.pool_model.specs.Run.{AnswersAsRun, noted_course, sealed_standing}
-use Rattle.run_laws.specs.Items.{WaitingStays}
+use Rattle.pool_model.specs.Waiting.{WaitingStays}
 use Rattle.table_state.specs.Pools.{Held, IsHeld}
 use Rattle.txg_sync.specs.Planning.{Group}
 use Rattle.txg_sync.specs.Syncing.{CanSync, group_pool, table_after}

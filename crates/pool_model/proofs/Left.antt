@@ -1,7 +1,7 @@
 -- What stands after the worked groups, each computed by the checker.
-use Rattle.std.specs.Prelude.{◌≡◌, ◌≤◌, [], ◌∷◌}
+use Rattle.std.specs.Prelude.{◌≡◌, ◌≤◌, [], ◌∷◌, length}
 use Rattle.pool_model.specs.Worked.{new, hit}
-use Rattle.std.proofs.Common.{refl, inl, inr, rules, arith}
+use Rattle.std.proofs.Common.{refl, ap, inl, inr, rules, arith}
 use Rattle.pool_model.specs.WorkedLeft.{LaterHit, TakenUp, NewMoment, NoChange, QuotaFirst, OffLane, OtherLaneOff, ReadsNothing, WaitsAgain, BytesKept, OldestFirst, PlainStays, QuotaByKeys, CutBlock, Ordered, FreePlaces, OtherNotes}
 
 pub later_hit : LaterHit
@@ -68,18 +68,18 @@ pub other_notes : OtherNotes
 other_notes = record {
   right = search rules;
   elsewhere = search rules;
-  missing = λ h. h;
-  one_more = λ h. (let e = h.1 in cc);
-  number = λ h. (let e : 3 ≡ 2 = h.0.number in omega arith);
-  kind = λ h. (let e = h.0.kind in cc);
-  taken = λ h. (let e : 1 ≡ 0 = h.0.did.0 in omega arith);
-  cut = λ h. (let e = h.0.room_is.0 in cc);
-  answer = λ h. (let e : new ∷ [] ≡ hit ∷ [] = h.0.did.1.agrees.replies in cc);
-  second_answer = λ h. (let e : 2 ≡ 1 = h.0.did.1.lanes.replies.0 in omega arith);
-  lane = λ h. (let e : 1 ∷ [] ≡ 0 ∷ [] = h.0.did.1.lanes.lanes in cc);
-  idle_lane = λ h. (let e : 0 ∷ 1 ∷ [] ≡ 0 ∷ [] = h.0.did.1.lanes.lanes in cc);
-  ring = λ h. (let e : 32 ≤ 31 = h.0.room_is.1.free.0.unnamed.start in omega arith);
-  no_place = λ h. (let e : 32 ≤ 0 = h.0.room_is.1.free.0.unnamed.start in omega arith);
-  second_place = λ h. (let e : 33 ∷ [] ≡ [] = h.0.did.1.agrees.fresh.0 in cc);
-  fault = λ h. (let e : 1 ≤ 0 = h.0.did.1.lanes.faults.0 in omega arith);
+  missing = λ h. (let e = h.all_items in cc);
+  one_more = λ h. (let e : 1 ≡ 2 = ap length h.all_notes in omega arith);
+  number = λ h. (let e : 3 ≡ 2 = h.run.1.number in omega arith);
+  kind = λ h. (let e = h.run.1.kind in cc);
+  taken = λ h. (let e : 1 ≡ 0 = h.run.1.did.0 in omega arith);
+  cut = λ h. h.run.1.did;
+  answer = λ h. (let e : new ∷ [] ≡ hit ∷ [] = h.run.1.did.1.agrees.replies in cc);
+  second_answer = λ h. (let e : 2 ≡ 1 = h.run.1.did.1.lanes.replies.0 in omega arith);
+  lane = λ h. (let e : 1 ∷ [] ≡ 0 ∷ [] = h.run.1.did.1.lanes.lanes in cc);
+  idle_lane = λ h. (let e : 0 ∷ 1 ∷ [] ≡ 0 ∷ [] = h.run.1.did.1.lanes.lanes in cc);
+  ring = λ h. (let e : 32 ≤ 31 = h.run.1.room_is.1.free.0.unnamed.start in omega arith);
+  no_place = λ h. (let e : 32 ≤ 0 = h.run.1.room_is.1.free.0.unnamed.start in omega arith);
+  second_place = λ h. (let e : 33 ∷ [] ≡ [] = h.run.1.did.1.agrees.fresh.0 in cc);
+  fault = λ h. (let e : 1 ≤ 0 = h.run.1.did.1.lanes.faults.0 in omega arith);
 }

@@ -1,42 +1,38 @@
 -- What a crash may leave of a run: which pools may stand in the image, and which of them does when the session has ended.
-use Rattle.std.specs.Prelude.{◌≡◌, ◌⊎◌, ℕ, Bool, true, false, ◌==◌, List, [], ◌∷◌, ◌++◌, length, Option, Some, None, if◌then◌else◌}
-use Rattle.ddt_entry.specs.declared.key.Key.{Key}
-use Rattle.pool_model.specs.declared.notes.Kind.{Kind}
+use Rattle.std.specs.Prelude.{◌≡◌, ◌⊎◌, ℕ, Bool, true, false, ◌==◌, List, [], ◌∷◌, length, Option, Some, None, if◌then◌else◌}
+use Rattle.std.specs.List.{flat_map}
 use Rattle.pool_model.specs.declared.notes.Outcome.{Outcome}
 use Rattle.pool_model.specs.declared.notes.Outcome.TheVariants.{Sealed, NoSpace, Cut}
-use Rattle.pool_model.specs.Pool.{Pool}
-use Rattle.pool_model.specs.Plain.{Task, Part, create, lanes, prune, quota, set_mode, stat, «import», Told}
+use Rattle.pool_model.specs.Plain.{GroupItem, lanes, prune, quota, set_mode, Part, create, of_group, stat, «import», Told}
 use Rattle.pool_model.specs.Group.{Standing, lanes_of}
-use Rattle.pool_model.specs.Run.{Order, kind_of, sealed_standing, noted_standing}
+use Rattle.pool_model.specs.Run.{RunStep}
 
 -- whether a group's note has what each of its lanes did, so that a sync may have been begun
-abbrev pub has_its_lanes : Part → Told → Bool
+abbrev pub has_its_lanes : GroupItem → Told → Bool
 has_its_lanes (lanes moment tasks) told = length told.lanes == length (lanes_of tasks)
 has_its_lanes (prune moment rule) told = true
 has_its_lanes (quota limit) told = true
 has_its_lanes (set_mode lane mode) told = true
-has_its_lanes create told = false
-has_its_lanes stat told = false
-has_its_lanes «import» told = false
 
--- the pool that a group may leave in the image: a sealed group its own, and so may one that was cut once its lanes had ended
-abbrev pub begun_by : Outcome → Order → (List ℕ → Key) → Standing → Part → Told → List Standing
-begun_by Sealed order key_of s part told = sealed_standing order key_of s part told ∷ []
-begun_by (NoSpace need free) order key_of s part told = []
-begun_by Cut order key_of s part told = if has_its_lanes part told then sealed_standing order key_of s part told ∷ [] else []
+-- whether a group's sync was begun: it was sealed, or cut once its lanes had ended
+abbrev pub is_begun_by : Outcome → GroupItem → Told → Bool
+is_begun_by Sealed item told = true
+is_begun_by (NoSpace need free) item told = false
+is_begun_by Cut item told = has_its_lanes item told
+
+abbrev pub is_begun : Part → Option Told → Bool
+is_begun (of_group item) (Some told) = is_begun_by told.outcome item told
+is_begun (of_group item) None = false
+is_begun create told = false
+is_begun stat told = false
+is_begun «import» told = false
 
 -- what stands after each group that was begun, in order
-abbrev pub begun_group : (List Told → Standing → List Standing) → Order → (List ℕ → Key) → Standing → Part → List Told → List Standing
-begun_group go_on order key_of s part [] = []
-begun_group go_on order key_of s part (told ∷ notes) = begun_by told.outcome order key_of s part told ++ go_on notes (noted_standing order key_of s part told)
+abbrev pub begun_by : RunStep → List Standing
+begun_by step = if is_begun step.part step.note then step.after ∷ [] else []
 
-abbrev pub begun_item : (List Told → Standing → List Standing) → Order → (List ℕ → Key) → Standing → Part → Option Kind → List Told → List Standing
-begun_item go_on order key_of s part None notes = go_on notes s
-begun_item go_on order key_of s part (Some kind) notes = begun_group go_on order key_of s part notes
-
-abbrev pub begun : Order → (List ℕ → Key) → List Part → List Told → Standing → List Standing
-begun order key_of [] notes s = []
-begun order key_of (part ∷ parts) notes s = begun_item (begun order key_of parts) order key_of s part (kind_of part) notes
+abbrev pub begun : List RunStep → List Standing
+begun steps = flat_map begun_by steps
 
 -- one of these stands
 abbrev pub AnyStands : (Standing → Type 0) → List Standing → Type 0

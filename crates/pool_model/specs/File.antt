@@ -8,7 +8,7 @@ use Rattle.hex.specs.Hex.{decode_of}
 use Rattle.hex.specs.declared.FromHexError.{FromHexError}
 use Rattle.pool_model.specs.declared.notes.BadKind.{BadKind}
 use Rattle.pool_model.specs.declared.notes.BadKind.TheVariants.{Form}
-use Rattle.pool_model.specs.Plain.{Task, write, Part, lanes, stat, «import»}
+use Rattle.pool_model.specs.Plain.{Task, write, lanes, Part, of_group, stat, «import»}
 
 -- the first bad line, counted from 1 (0 for the file as a whole), and what is wrong with it
 pub record Bad : Type 0 where
@@ -123,7 +123,7 @@ read_item parts line =
 -- the line is a command of the open group, or its end
 abbrev pub read_command : (parts : List Part) → OpenGroup → (line : List ℕ) → Option Progress
 read_command parts group line =
-    if bytes_eq line (codes "end") then Some (with_part parts (lanes group.moment group.tasks))
+    if bytes_eq line (codes "end") then Some (with_part parts (of_group (lanes group.moment group.tasks)))
     else if nat_lt (length group.tasks) command_limit then with_task parts group (task_in line)
     else None
 

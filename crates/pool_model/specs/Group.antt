@@ -1,21 +1,29 @@
 -- A whole group of lanes' commands: its turns in an order, the changes that it leaves to the table, and which places it may give out.
-use Rattle.std.specs.Prelude.{◌≡◌, ℕ, ◌+◌, ◌<◌, ◌≤◌, Bool, ◌&&◌, ◌==◌, nat_lt, List, [], length, filter, map, fold, replicate, count_by, Option, Some, None, if◌then◌else◌, slice_set}
+use Rattle.std.specs.Prelude.{◌≡◌, ℕ, ◌+◌, ◌≤◌, Bool, ◌&&◌, ◌==◌, nat_lt, List, [], length, filter, map, fold, replicate, count_by, Option, Some, None, if◌then◌else◌, slice_set}
 use Rattle.std.specs.List.{AllByRecursion, find, filter_map, flat_map, zip, range_with_len}
 use Rattle.std.specs.Option.{option_map}
+use Rattle.ddt_entry.specs.Keys.{Keying}
 use Rattle.ddt_entry.specs.declared.key.Key.{Key}
 use Rattle.ddt_entry.specs.declared.entry.Home.{Home}
 use Rattle.ddt_entry.specs.declared.entry.Change.{Change}
 use Rattle.ddt_entry.specs.declared.entry.Change.TheVariants as changes
 use Rattle.pool_model.specs.Pool.{Pool, Pointer, Pairwise, IsApart, run_length, lane_count, with_key}
 use Rattle.pool_model.specs.Table.{TableState, found, sync_table, waiting_in}
-use Rattle.pool_model.specs.Plain.{Task, LaneTold}
+use Rattle.pool_model.specs.Plain.{Task, LaneTold, Told}
 use Rattle.pool_model.specs.Command.{Opening, Turn, Course, known_home, after, is_fault}
 
--- a pool with its table, and the bytes at each place
+-- a pool with its table, the bytes at each place, the sectors that it has, and those of its image's pages
 pub record Standing : Type 0 where
   pub pool : Pool
   pub table : TableState
   pub blocks : ℕ → List ℕ
+  pub sectors : ℕ
+  pub pages : List ℕ
+
+-- how a run goes: how keys are made, and in which order the commands of a group's lanes are taken, by its note
+pub record Rules : Type 0 where
+  pub keying : Keying
+  pub order : List Task → Told → List Turn
 
 abbrev pub opening_of : (List ℕ → Key) → Standing → (moment : ℕ) → Opening
 opening_of key_of s moment = record { key_of = key_of; table = s.table; blocks = s.blocks; number = s.pool.group + 1; moment = moment }
@@ -40,8 +48,12 @@ abbrev pub turns_of : List Task → LaneTold → List Turn
 turns_of tasks told = map (λ pair. record { task = pair.0; reply = pair.1 }) (zip (tasks_of told.lane tasks) told.replies)
 
 -- the lanes one after another
-abbrev pub lane_by_lane : List Task → List LaneTold → List Turn
-lane_by_lane tasks told = flat_map (turns_of tasks) told
+abbrev pub lane_by_lane : List Task → Told → List Turn
+lane_by_lane tasks told = flat_map (turns_of tasks) told.lanes
+
+-- the rules by which the lanes are taken so
+abbrev pub lanes_in_turn : Keying → Rules
+lanes_in_turn keying = record { keying = keying; order = lane_by_lane }
 
 -- the fresh places that each lane got
 abbrev pub fresh_of : List LaneTold → List (List ℕ)
@@ -84,13 +96,15 @@ block_or block (Some p) = p.content
 abbrev pub blocks_after : Standing → ℕ → List ℕ
 blocks_after s place = block_or (s.blocks place) (find (λ p. p.place == place) s.pool.pointers)
 
--- what stands after a group of lanes' commands
-abbrev pub after_lanes : Opening → Standing → Course → Standing
-after_lanes opening s course =
+-- what stands after a group of lanes' commands whose image has these pages
+abbrev pub after_lanes : Opening → Standing → Course → (pages : List ℕ) → Standing
+after_lanes opening s course pages =
     record {
       pool = record course.pool { group = opening.number };
       table = sync_table (changes_of opening course) s.table;
       blocks = blocks_after s;
+      sectors = s.sectors;
+      pages = pages;
     }
 
 -- one note for each lane that has commands, in rising order, with one answer for each of its commands and no more faults than its reads had
@@ -110,18 +124,11 @@ pub record IsUnnamed (s : Standing) (place length : ℕ) : Type 0 where
   pub no_pointer : AllByRecursion (λ p. IsApart place length p.place (run_length p.key)) s.pool.pointers
   pub not_waiting : AllByRecursion (λ entry. IsApart place length entry.home.place (run_length entry.key)) (waiting_in s.table)
 
--- it lies on the disk besides, and none of these pages does
-pub record IsFree (sectors : ℕ) (pages : List ℕ) (s : Standing) (place length : ℕ) : Type 0 where
+-- it lies in the pool besides, and no page of the image does
+pub record IsFree (s : Standing) (place length : ℕ) : Type 0 where
   pub unnamed : IsUnnamed s place length
-  pub end : place + length ≤ sectors
-  pub no_page : AllByRecursion (λ page. IsApart place length page 1) pages
-
--- the sectors of an image's pages: so many, each of its own, in the pool, and none that something else names
-pub record ArePages (sectors count : ℕ) (s : Standing) (pages : List ℕ) : Type 0 where
-  pub count_is : length pages ≡ count
-  pub apart : Pairwise (λ a b. IsApart a 1 b 1) pages
-  pub unnamed : AllByRecursion (λ page. IsUnnamed s page 1) pages
-  pub within : AllByRecursion (λ page. page < sectors) pages
+  pub end : place + length ≤ s.sectors
+  pub no_page : AllByRecursion (λ page. IsApart place length page 1) s.pages
 
 -- the runs were free, and no two share a sector
 pub record AreFresh (is_free : (place length : ℕ) → Type 0) (given : List (ℕ × ℕ)) : Type 0 where

@@ -1,3 +1,4 @@
+pub mod ByKey
 pub mod Clash
 pub mod Crash
 pub mod Command
@@ -11,6 +12,7 @@ pub mod Space
 pub mod Stats
 pub mod Table
 pub mod Text
+pub mod Waiting
 pub mod Worked
 pub mod WorkedRuns
 pub mod WorkedTurns

@@ -33,13 +33,17 @@ pub record Task : Type 0 where
   pub slot : ℕ
   pub act : Act
 
+-- an item that is a group: commands of lanes, a prune, or a setting
+pub data GroupItem : Type 0 where
+  lanes : (moment : ℕ) (tasks : List Task) → GroupItem
+  prune : (moment : ℕ) (rule : PruneRule) → GroupItem
+  quota : (limit : Option ℕ) → GroupItem
+  set_mode : (lane : ℕ) (mode : Mode) → GroupItem
+
 -- an item of a command file
 pub data Part : Type 0 where
   create : Part
-  lanes : (moment : ℕ) (tasks : List Task) → Part
-  prune : (moment : ℕ) (rule : PruneRule) → Part
-  quota : (limit : Option ℕ) → Part
-  set_mode : (lane : ℕ) (mode : Mode) → Part
+  of_group : (item : GroupItem) → Part
   stat : Part
   «import» : Part
 
@@ -85,10 +89,10 @@ task_of command = record { lane = command.lane; slot = command.slot; act = act_o
 
 abbrev pub part_of : Item → Part
 part_of items.Create = create
-part_of (items.Lanes group) = lanes group.moment (map task_of group.commands.items)
-part_of (items.Prune moment rule) = prune moment rule
-part_of (items.Quota limit) = quota limit
-part_of (items.SetMode lane mode) = set_mode lane mode
+part_of (items.Lanes group) = of_group (lanes group.moment (map task_of group.commands.items))
+part_of (items.Prune moment rule) = of_group (prune moment rule)
+part_of (items.Quota limit) = of_group (quota limit)
+part_of (items.SetMode lane mode) = of_group (set_mode lane mode)
 part_of items.Stat = stat
 part_of items.Import = «import»
 

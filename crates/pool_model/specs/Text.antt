@@ -13,9 +13,9 @@ use Rattle.pool_model.specs.declared.stats.Bucket.{Bucket}
 use Rattle.pool_model.specs.declared.stats.Stats.{Stats}
 use Rattle.pool_model.specs.Pool.{Pool}
 use Rattle.pool_model.specs.Stats.{stats_of}
-use Rattle.pool_model.specs.Plain.{Act, write, read, free, Task, Part, create, lanes, prune, quota, set_mode, stat, «import», Sight, bytes, nothing, unread, unsound, Reply, to_write, to_free, to_read, LaneTold, Told}
+use Rattle.pool_model.specs.Plain.{Act, write, read, free, Task, GroupItem, lanes, prune, quota, set_mode, Part, create, of_group, stat, «import», Sight, bytes, nothing, unread, unsound, Reply, to_write, to_free, to_read, LaneTold, Told}
 use Rattle.pool_model.specs.Group.{tasks_of}
-use Rattle.pool_model.specs.Run.{Ended}
+use Rattle.pool_model.specs.Run.{RunStep}
 
 -- words with a space between two, and the end of the line
 abbrev pub line : List (List ℕ) → List ℕ
@@ -64,38 +64,31 @@ abbrev pub lane_text : List Task → LaneTold → List ℕ
 lane_text tasks told = flat_map command_line (zip (tasks_of told.lane tasks) told.replies)
 
 -- what a group of this kind is called
-abbrev pub kind_word : Part → List ℕ
+abbrev pub kind_word : GroupItem → List ℕ
 kind_word (lanes moment tasks) = codes "group"
 kind_word (prune moment rule) = codes "prune"
 kind_word (quota limit) = codes "quota"
 kind_word (set_mode lane mode) = codes "mode"
-kind_word create = codes "create"
-kind_word stat = codes "stat"
-kind_word «import» = codes "import"
 
--- what follows a sealed group's first line, and what ends that line
-abbrev pub sealed_words : Part → Told → List (List ℕ)
+-- what ends a sealed group's first line, and the lines behind it
+abbrev pub sealed_words : GroupItem → Told → List (List ℕ)
 sealed_words (prune moment rule) told = decimal told.taken ∷ []
 sealed_words (lanes moment tasks) told = []
 sealed_words (quota limit) told = []
 sealed_words (set_mode lane mode) told = []
-sealed_words create told = []
-sealed_words stat told = []
-sealed_words «import» told = []
 
-abbrev pub answers_text : Part → Told → List ℕ
+abbrev pub answers_text : GroupItem → Told → List ℕ
 answers_text (lanes moment tasks) told = flat_map (lane_text tasks) told.lanes
 answers_text (prune moment rule) told = []
 answers_text (quota limit) told = []
 answers_text (set_mode lane mode) told = []
-answers_text create told = []
-answers_text stat told = []
-answers_text «import» told = []
 
-abbrev pub group_text : Part → Told → Outcome → List ℕ
-group_text part told Sealed = line (kind_word part ∷ decimal told.number ∷ codes "sealed" ∷ sealed_words part told) ++ answers_text part told
-group_text part told (NoSpace need free') = line (kind_word part ∷ decimal told.number ∷ codes "nospace" ∷ decimal need ∷ decimal free' ∷ [])
-group_text part told Cut = []
+abbrev pub group_text : GroupItem → Told → Outcome → List ℕ
+group_text item told Sealed =
+    line (kind_word item ∷ decimal told.number ∷ codes "sealed" ∷ sealed_words item told) ++ answers_text item told
+group_text item told (NoSpace need free') =
+    line (kind_word item ∷ decimal told.number ∷ codes "nospace" ∷ decimal need ∷ decimal free' ∷ [])
+group_text item told Cut = []
 
 -- a number under its name
 abbrev pub number_line : List ℕ → ℕ → List ℕ
@@ -122,23 +115,19 @@ abbrev pub stat_text : (group : ℕ) → (limit : Option ℕ) → Stats → List
 stat_text group limit stats =
     number_line (codes "stat") group ++ line (codes "quota" ∷ quota_word limit ∷ []) ++ sums_text stats ++ buckets_text stats.buckets
 
--- the text of an item without a note, after which this pool stands
-abbrev pub plain_text : Part → Pool → List ℕ
-plain_text stat pool = stat_text pool.group pool.quota (stats_of pool)
-plain_text «import» pool = number_line (codes "import") pool.group
-plain_text create pool = number_line (codes "create") 1
-plain_text (lanes moment tasks) pool = []
-plain_text (prune moment rule) pool = []
-plain_text (quota limit) pool = []
-plain_text (set_mode lane mode) pool = []
+-- the text of an item, with its note where it is a group, after which this pool stands
+abbrev pub noted_text : GroupItem → Option Told → List ℕ
+noted_text item None = []
+noted_text item (Some told) = group_text item told told.outcome
 
-abbrev pub noted_text : Part → Pool → Option Told → List ℕ
-noted_text part pool None = plain_text part pool
-noted_text part pool (Some told) = group_text part told told.outcome
+abbrev pub item_text : Part → Option Told → Pool → List ℕ
+item_text (of_group item) told pool = noted_text item told
+item_text stat noted pool = stat_text pool.group pool.quota (stats_of pool)
+item_text «import» noted pool = number_line (codes "import") pool.group
+item_text create noted pool = number_line (codes "create") 1
 
--- the text of an item that ended
-abbrev pub item_text : Ended → List ℕ
-item_text ended = noted_text ended.part ended.standing.pool ended.note
+abbrev pub step_text : RunStep → List ℕ
+step_text step = item_text step.part step.note step.after.pool
 
-abbrev pub report : List Ended → List ℕ
-report ended = flat_map item_text ended
+abbrev pub report : List RunStep → List ℕ
+report steps = flat_map step_text steps

@@ -12,13 +12,12 @@ use Rattle.pool_model.specs.declared.notes.BadKind.TheVariants.{Form}
 use Rattle.pool_model.specs.Pool.{Pool, Pointer, Mark, plain, tracked, loose, empty_pool, IsWellFormed}
 use Rattle.pool_model.specs.Stats.{stats_of}
 use Rattle.pool_model.specs.Table.{empty_table, Matches}
-use Rattle.pool_model.specs.Plain.{Task, Part, Told, write, read, free, lanes, set_mode, stat, «import», to_write}
+use Rattle.pool_model.specs.Plain.{Task, Part, Told, write, read, free, stat, «import», to_write}
 use Rattle.pool_model.specs.Space.{need, writes_in, changes_in}
-use Rattle.pool_model.specs.Group.{Standing, lane_by_lane}
-use Rattle.pool_model.specs.Run.{Ended, ended_items, first_standing}
+use Rattle.pool_model.specs.Group.{Standing}
 use Rattle.pool_model.specs.Clash.{NoClash}
 use Rattle.pool_model.specs.File.{OpenGroup, file_limit, file_of, lawful_block, read_behind}
-use Rattle.pool_model.specs.Worked.{a, b, c, task, new, hit, lane_note, group_note, settings_note}
+use Rattle.pool_model.specs.Worked.{rules_by, steps_by, new_pool, lanes_item, mode_item, a, b, c, task, new, hit, lane_note, group_note, settings_note}
 use Rattle.pool_model.specs.WorkedTurns.{spoilt}
 
 -- files that aren't of the form: without the last line feed, with CR, in capitals, with another letter, with another digit, with an odd digit,
@@ -61,16 +60,16 @@ RefusedFiles = AllByRecursion (λ file. file_of file ≡ Err (record { line = 0;
 -- the largest moment and slot, a slot 0, and hex digits of each kind
 abbrev pub EdgeFile : Type 0
 EdgeFile = file_of (codes "group 1099511627775\n0 write 65535 00ff\n0 write 0 a9\nend\nstat\n")
-    ≡ Ok (lanes 1099511627775 (task 0 65535 (write (0 ∷ 255 ∷ [])) ∷ task 0 0 (write (169 ∷ [])) ∷ []) ∷ stat ∷ [])
+    ≡ Ok (lanes_item 1099511627775 (task 0 65535 (write (0 ∷ 255 ∷ [])) ∷ task 0 0 (write (169 ∷ [])) ∷ []) ∷ stat ∷ [])
 
 -- files of no item, of one, and of several, an empty group among them
 pub record ReadFiles : Type 0 where
   pub empty : file_of [] ≡ Ok []
   pub asks : file_of (codes "stat\n") ≡ Ok (stat ∷ [])
   pub imports : file_of (codes "import\n") ≡ Ok («import» ∷ [])
-  pub no_write : file_of (codes "group 5\nend\n") ≡ Ok (lanes 5 [] ∷ [])
+  pub no_write : file_of (codes "group 5\nend\n") ≡ Ok (lanes_item 5 [] ∷ [])
   pub several : file_of (codes "stat\ngroup 9\n0 write 2 61\n0 write 1 62\nend\nimport\ngroup 8\n0 write 3 63\nend\n")
-      ≡ Ok (stat ∷ lanes 9 (task 0 2 (write a) ∷ task 0 1 (write b) ∷ []) ∷ «import» ∷ lanes 8 (task 0 3 (write c) ∷ []) ∷ [])
+      ≡ Ok (stat ∷ lanes_item 9 (task 0 2 (write a) ∷ task 0 1 (write b) ∷ []) ∷ «import» ∷ lanes_item 8 (task 0 3 (write c) ∷ []) ∷ [])
 
 -- a group at moment 0 whose `end` was not read yet
 abbrev pub open_group : (tasks : List Task) → Option OpenGroup
@@ -106,18 +105,19 @@ pub record Needs : Type 0 where
 
 -- two blocks of one weak key, written in lane 0
 abbrev pub two_blocks : List Part
-two_blocks = lanes 1000 (task 0 1 (write (97 ∷ a)) ∷ task 0 2 (write (97 ∷ b)) ∷ []) ∷ []
+two_blocks = lanes_item 1000 (task 0 1 (write (97 ∷ a)) ∷ task 0 2 (write (97 ∷ b)) ∷ []) ∷ []
 
 abbrev pub two_blocks_notes : (number : ℕ) → List Told
 two_blocks_notes number = group_note number (lane_note 0 (new ∷ hit ∷ []) (32 ∷ []) ∷ []) ∷ []
 
-abbrev pub ended_weakly : Standing → List Part → List Told → List Ended
-ended_weakly s parts notes = ended_items lane_by_lane weak_key parts notes s
+-- the premise over these items and their notes
+abbrev pub IsClashFree : (List ℕ → Key) → Standing → List Part → List Told → Type 0
+IsClashFree key_of s parts notes = NoClash key_of s (steps_by (rules_by key_of) parts s notes)
 
 -- one write in a lane that trusts keys
 abbrev pub TrustsOneWrite : Standing → Type 0
-TrustsOneWrite s = NoClash sha256_key s (lanes 1000 (task 1 1 (write a) ∷ []) ∷ [])
-    (ended_items lane_by_lane sha256_key (lanes 1000 (task 1 1 (write a) ∷ []) ∷ []) (group_note 2 (lane_note 1 (new ∷ []) (32 ∷ []) ∷ []) ∷ []) s)
+TrustsOneWrite s =
+    IsClashFree sha256_key s (lanes_item 1000 (task 1 1 (write a) ∷ []) ∷ []) (group_note 2 (lane_note 1 (new ∷ []) (32 ∷ []) ∷ []) ∷ [])
 
 -- a home of the key that waits at place 40, where its block lies, while another block lies at the place of its birth's number
 abbrev pub whole_block : Standing
@@ -128,11 +128,10 @@ off_notes number = group_note number (lane_note 0 (to_write written.Off ∷ to_w
 
 -- the premise fails where a lane that trusts keys writes two blocks of one key, or finds other bytes under its key, that wait or that a pointer has; a lane that verifies, or that is off, asks for nothing
 pub record Premise : Type 0 where
-  pub clash : NoClash weak_key first_standing two_blocks (ended_weakly first_standing two_blocks (two_blocks_notes 2)) → ⊥
-  pub verified : NoClash weak_key first_standing (set_mode 0 Verify ∷ two_blocks) (ended_weakly first_standing (set_mode 0 Verify ∷ two_blocks) (settings_note 2 ∷ two_blocks_notes 3))
-  pub switched_off : NoClash weak_key first_standing (set_mode 0 Off ∷ two_blocks) (ended_weakly first_standing (set_mode 0 Off ∷ two_blocks) (settings_note 2 ∷ off_notes 3))
-  pub one_block : NoClash sha256_key first_standing (lanes 1000 (task 0 1 (write a) ∷ task 0 2 (write a) ∷ []) ∷ [])
-      (ended_items lane_by_lane sha256_key (lanes 1000 (task 0 1 (write a) ∷ task 0 2 (write a) ∷ []) ∷ []) (two_blocks_notes 2) first_standing)
+  pub clash : IsClashFree weak_key new_pool two_blocks (two_blocks_notes 2) → ⊥
+  pub verified : IsClashFree weak_key new_pool (mode_item 0 Verify ∷ two_blocks) (settings_note 2 ∷ two_blocks_notes 3)
+  pub switched_off : IsClashFree weak_key new_pool (mode_item 0 Off ∷ two_blocks) (settings_note 2 ∷ off_notes 3)
+  pub one_block : IsClashFree sha256_key new_pool (lanes_item 1000 (task 0 1 (write a) ∷ task 0 2 (write a) ∷ []) ∷ []) (two_blocks_notes 2)
   pub spoilt_block : TrustsOneWrite (record spoilt { pool = empty_pool }) → ⊥
   pub spoilt_pointer : TrustsOneWrite (record spoilt { table = empty_table }) → ⊥
   pub waiting_block : TrustsOneWrite whole_block

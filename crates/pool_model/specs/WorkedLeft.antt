@@ -12,22 +12,22 @@ use Rattle.pool_model.specs.declared.notes.Kind.TheVariants.{Prune}
 use Rattle.pool_model.specs.declared.notes.Outcome.TheVariants.{Cut}
 use Rattle.pool_model.specs.Pool.{Pointer, Mark, plain, tracked, loose, empty_pool, run_length, with_pointer}
 use Rattle.pool_model.specs.Table.{TableState, empty_table}
-use Rattle.pool_model.specs.Plain.{Act, write, read, free, Part, Reply, lanes, prune, quota, set_mode, to_write, to_free, to_read, nothing, Told}
-use Rattle.pool_model.specs.Group.{Standing, IsFree, AreFresh, lane_by_lane}
+use Rattle.pool_model.specs.Plain.{Act, write, read, free, Part, Reply, to_write, to_free, to_read, nothing, Told}
+use Rattle.pool_model.specs.Group.{Standing, IsFree, AreFresh}
 use Rattle.pool_model.specs.Space.{used_sectors, free_count}
-use Rattle.pool_model.specs.Run.{always_sealed, NotesRun, ended_items, first_standing, last_standing, noted_course}
-use Rattle.pool_model.specs.Worked.{a, b, c, task, new, hit, counted, lane_note, group_note, prune_note, settings_note}
+use Rattle.pool_model.specs.Run.{always_sealed, last_standing, noted_course}
+use Rattle.pool_model.specs.Worked.{AreNotesOf, rules_by, steps_by, new_pool, lanes_item, prune_item, quota_item, mode_item, a, b, c, task, new, hit, counted, lane_note, group_note, prune_note, settings_note}
 use Rattle.pool_model.specs.WorkedTurns.{own_key}
 
 -- from here the notes are those of a run of the items, which leaves these pointers and this table
 pub record Leaves (key_of : List ℕ → Key) (s : Standing) (parts : List Part) (notes : List Told) (pointers : List Pointer) (table : TableState) : Type 0 where
-  pub run : NotesRun lane_by_lane (always_sealed (IsFree 2048 [])) key_of parts notes s
-  pub pointers_left : (last_standing s (ended_items lane_by_lane key_of parts notes s)).pool.pointers ≡ pointers
-  pub table_left : (last_standing s (ended_items lane_by_lane key_of parts notes s)).table ≡ table
+  pub notes_are : AreNotesOf always_sealed (rules_by key_of) s parts notes
+  pub pointers_left : (last_standing s (steps_by (rules_by key_of) parts s notes)).pool.pointers ≡ pointers
+  pub table_left : (last_standing s (steps_by (rules_by key_of) parts s notes)).table ≡ table
 
 -- a group of commands of lane 0, and its note
 abbrev pub commands : (moment : ℕ) → List (ℕ × Act) → Part
-commands moment acts = lanes moment (map (λ pair. task 0 pair.0 pair.1) acts)
+commands moment acts = lanes_item moment (map (λ pair. task 0 pair.0 pair.1) acts)
 
 abbrev pub told : (number : ℕ) → List Reply → (fresh : List ℕ) → Told
 told number replies fresh = group_note number (lane_note 0 replies fresh ∷ [])
@@ -44,7 +44,7 @@ logged age entries = record empty_table { active = map changes.Entry entries; ag
 
 -- a hit keeps the moment of the first write
 abbrev pub LaterHit : Type 0
-LaterHit = Leaves own_key first_standing
+LaterHit = Leaves own_key new_pool
     (commands 1000 ((1, write a) ∷ []) ∷ commands 2000 ((2, write a) ∷ []) ∷ [])
     (told 2 (new ∷ []) (32 ∷ []) ∷ told 3 (hit ∷ []) [] ∷ [])
     (pointer 1 a 32 2 (tracked 1000) ∷ pointer 2 a 32 2 (tracked 1000) ∷ [])
@@ -52,7 +52,7 @@ LaterHit = Leaves own_key first_standing
 
 -- a home that is taken up again keeps its place and birth, and counts from the new moment
 abbrev pub TakenUp : Type 0
-TakenUp = Leaves own_key first_standing
+TakenUp = Leaves own_key new_pool
     (commands 1000 ((1, write a) ∷ []) ∷ commands 2000 ((1, free) ∷ []) ∷ commands 3000 ((2, write a) ∷ []) ∷ [])
     (told 2 (new ∷ []) (32 ∷ []) ∷ told 3 (counted ∷ []) [] ∷ told 4 (new ∷ []) [] ∷ [])
     (pointer 2 a 32 2 (tracked 3000) ∷ [])
@@ -60,7 +60,7 @@ TakenUp = Leaves own_key first_standing
 
 -- the same within one group, where only the moment changes
 abbrev pub NewMoment : Type 0
-NewMoment = Leaves own_key first_standing
+NewMoment = Leaves own_key new_pool
     (commands 1000 ((1, write a) ∷ []) ∷ commands 2000 ((1, free) ∷ (2, write a) ∷ []) ∷ [])
     (told 2 (new ∷ []) (32 ∷ []) ∷ told 3 (counted ∷ new ∷ []) [] ∷ [])
     (pointer 2 a 32 2 (tracked 2000) ∷ [])
@@ -69,7 +69,7 @@ NewMoment = Leaves own_key first_standing
 -- a hit and a free in one group are no change, and neither is an entry that comes and goes
 abbrev pub NoChange : Type 0
 NoChange = Leaves own_key
-    (record first_standing { pool = record empty_pool { pointers = pointer 1 a 32 2 (tracked 1000) ∷ [] }; table = record empty_table { zap = entry (own_key a) 32 2 1000 1 ∷ [] } })
+    (record new_pool { pool = record empty_pool { pointers = pointer 1 a 32 2 (tracked 1000) ∷ [] }; table = record empty_table { zap = entry (own_key a) 32 2 1000 1 ∷ [] } })
     (commands 2000 ((2, write a) ∷ (1, free) ∷ (3, write b) ∷ (3, free) ∷ []) ∷ [])
     (told 2 (hit ∷ counted ∷ new ∷ counted ∷ []) (33 ∷ []) ∷ [])
     (pointer 2 a 32 2 (tracked 1000) ∷ [])
@@ -77,32 +77,32 @@ NoChange = Leaves own_key
 
 -- the quota is asked before a home that waits is taken up
 abbrev pub QuotaFirst : Type 0
-QuotaFirst = Leaves own_key first_standing
-    (quota (Some 256) ∷ commands 1000 ((1, write a) ∷ []) ∷ commands 2000 ((1, free) ∷ (2, write b) ∷ (3, write a) ∷ []) ∷ [])
+QuotaFirst = Leaves own_key new_pool
+    (quota_item (Some 256) ∷ commands 1000 ((1, write a) ∷ []) ∷ commands 2000 ((1, free) ∷ (2, write b) ∷ (3, write a) ∷ []) ∷ [])
     (settings_note 2 ∷ told 3 (new ∷ []) (32 ∷ []) ∷ told 4 (counted ∷ new ∷ to_write written.Quota ∷ []) (33 ∷ 34 ∷ []) ∷ [])
     (pointer 2 b 33 4 (tracked 2000) ∷ pointer 3 a 34 4 plain ∷ [])
     (logged 3 (entry (own_key a) 32 3 1000 0 ∷ entry (own_key b) 33 4 2000 1 ∷ []))
 
 -- a lane that is off keeps its blocks outside the table
 abbrev pub OffLane : Type 0
-OffLane = Leaves own_key first_standing
-    (set_mode 0 Off ∷ commands 1000 ((1, write a) ∷ (2, write a) ∷ (2, free) ∷ []) ∷ [])
+OffLane = Leaves own_key new_pool
+    (mode_item 0 Off ∷ commands 1000 ((1, write a) ∷ (2, write a) ∷ (2, free) ∷ []) ∷ [])
     (settings_note 2 ∷ told 3 (to_write written.Off ∷ to_write written.Off ∷ to_free freed.Freed ∷ []) (32 ∷ 33 ∷ []) ∷ [])
     (pointer 1 a 32 3 plain ∷ [])
     (record empty_table { age = 2 })
 
 -- another lane than the one that is off has its change logged, whatever its slot
 abbrev pub OtherLaneOff : Type 0
-OtherLaneOff = Leaves own_key first_standing
-    (set_mode 1 Off ∷ commands 1000 ((1, write a) ∷ []) ∷ [])
+OtherLaneOff = Leaves own_key new_pool
+    (mode_item 1 Off ∷ commands 1000 ((1, write a) ∷ []) ∷ [])
     (settings_note 2 ∷ told 3 (new ∷ []) (32 ∷ []) ∷ [])
     (pointer 1 a 32 3 (tracked 1000) ∷ [])
     (logged 2 (entry (own_key a) 32 3 1000 1 ∷ []))
 
 -- a lane that is off reads nothing that could fail, and neither does a write to a slot that is taken or a free outside the table
 abbrev pub ReadsNothing : Type 0
-ReadsNothing = (noted_course lane_by_lane own_key
-    (record first_standing { pool = record empty_pool { modes = Off ∷ replicate 15 On } })
+ReadsNothing = (noted_course (rules_by own_key)
+    (record new_pool { pool = record empty_pool { modes = Off ∷ replicate 15 On } })
     1000
     (task 0 1 (write a) ∷ task 0 1 (write b) ∷ task 0 1 free ∷ task 0 1 free ∷ task 0 1 read ∷ [])
     (told 2 (to_write written.Fault ∷ to_write written.Fault ∷ to_free freed.Fault ∷ to_free freed.Fault ∷ to_write written.Fault ∷ []) (32 ∷ []))).replies
@@ -110,24 +110,24 @@ ReadsNothing = (noted_course lane_by_lane own_key
 
 -- an entry that is made in place of one that waits, and goes again, leaves the one that waits
 abbrev pub WaitsAgain : Type 0
-WaitsAgain = Leaves weak_key first_standing
-    (set_mode 0 Verify ∷ commands 1000 ((1, write (97 ∷ a)) ∷ []) ∷ commands 2000 ((1, free) ∷ (2, write (97 ∷ b)) ∷ (2, free) ∷ []) ∷ [])
+WaitsAgain = Leaves weak_key new_pool
+    (mode_item 0 Verify ∷ commands 1000 ((1, write (97 ∷ a)) ∷ []) ∷ commands 2000 ((1, free) ∷ (2, write (97 ∷ b)) ∷ (2, free) ∷ []) ∷ [])
     (settings_note 2 ∷ told 3 (new ∷ []) (32 ∷ []) ∷ told 4 (counted ∷ new ∷ counted ∷ []) (33 ∷ []) ∷ [])
     []
     (logged 3 (entry (weak_key (97 ∷ a)) 32 3 1000 0 ∷ []))
 
 -- a block that waits keeps its bytes, and a lane that verifies takes it up by them
 abbrev pub BytesKept : Type 0
-BytesKept = Leaves own_key first_standing
-    (set_mode 0 Verify ∷ commands 1000 ((1, write a) ∷ []) ∷ commands 2000 ((1, free) ∷ []) ∷ commands 3000 [] ∷ commands 4000 ((2, write a) ∷ []) ∷ [])
+BytesKept = Leaves own_key new_pool
+    (mode_item 0 Verify ∷ commands 1000 ((1, write a) ∷ []) ∷ commands 2000 ((1, free) ∷ []) ∷ commands 3000 [] ∷ commands 4000 ((2, write a) ∷ []) ∷ [])
     (settings_note 2 ∷ told 3 (new ∷ []) (32 ∷ []) ∷ told 4 (counted ∷ []) [] ∷ group_note 5 [] ∷ told 6 (new ∷ []) [] ∷ [])
     (pointer 2 a 32 3 (tracked 4000) ∷ [])
     (logged 5 (entry (own_key a) 32 3 4000 1 ∷ []))
 
 -- a prune by share takes the oldest first, whatever its key, and none that has two pointers
 abbrev pub OldestFirst : Type 0
-OldestFirst = Leaves own_key first_standing
-    (commands 1000 ((1, write c) ∷ (2, write c) ∷ (3, write b) ∷ []) ∷ commands 2000 ((4, write a) ∷ []) ∷ prune 3000 (Share 50) ∷ [])
+OldestFirst = Leaves own_key new_pool
+    (commands 1000 ((1, write c) ∷ (2, write c) ∷ (3, write b) ∷ []) ∷ commands 2000 ((4, write a) ∷ []) ∷ prune_item 3000 (Share 50) ∷ [])
     (told 2 (new ∷ hit ∷ new ∷ []) (32 ∷ 33 ∷ []) ∷ told 3 (new ∷ []) (34 ∷ []) ∷ prune_note 4 1 ∷ [])
     (pointer 1 c 32 2 (tracked 1000) ∷ pointer 2 c 32 2 (tracked 1000) ∷ pointer 3 b 33 2 loose ∷ pointer 4 a 34 3 (tracked 2000) ∷ [])
     (record empty_table { active = changes.Entry (entry (own_key a) 34 3 2000 1) ∷ changes.Gone (own_key b) ∷ changes.Entry (entry (own_key c) 32 2 1000 2) ∷ []; age = 3 })
@@ -136,8 +136,8 @@ OldestFirst = Leaves own_key first_standing
 abbrev pub PlainStays : Type 0
 PlainStays = Leaves
     own_key
-    (record first_standing { pool = record empty_pool { pointers = pointer 1 a 32 1 (tracked 1000) ∷ pointer 2 a 33 1 plain ∷ [] }; table = record empty_table { zap = entry (own_key a) 32 1 1000 1 ∷ [] } })
-    (prune 2000 (Share 100) ∷ [])
+    (record new_pool { pool = record empty_pool { pointers = pointer 1 a 32 1 (tracked 1000) ∷ pointer 2 a 33 1 plain ∷ [] }; table = record empty_table { zap = entry (own_key a) 32 1 1000 1 ∷ [] } })
+    (prune_item 2000 (Share 100) ∷ [])
     (prune_note 2 1 ∷ [])
     (pointer 1 a 32 1 loose ∷ pointer 2 a 33 1 plain ∷ [])
     (record empty_table { zap = entry (own_key a) 32 1 1000 1 ∷ []; active = changes.Gone (own_key a) ∷ []; age = 1 })
@@ -146,8 +146,8 @@ PlainStays = Leaves
 abbrev pub QuotaByKeys : Type 0
 QuotaByKeys = Leaves
     own_key
-    first_standing
-    (quota (Some 512) ∷ commands 1000 ((1, write a) ∷ (2, write a) ∷ (3, write b) ∷ (4, write c) ∷ []) ∷ [])
+    new_pool
+    (quota_item (Some 512) ∷ commands 1000 ((1, write a) ∷ (2, write a) ∷ (3, write b) ∷ (4, write c) ∷ []) ∷ [])
     (settings_note 2 ∷ told 3 (new ∷ hit ∷ new ∷ to_write written.Quota ∷ []) (32 ∷ 33 ∷ 34 ∷ []) ∷ [])
     (pointer 1 a 32 3 (tracked 1000) ∷ pointer 2 a 32 3 (tracked 1000) ∷ pointer 3 b 33 3 (tracked 1000) ∷ pointer 4 c 34 3 plain ∷ [])
     (logged 2 (entry (own_key a) 32 3 1000 2 ∷ entry (own_key b) 33 3 1000 1 ∷ []))
@@ -160,6 +160,8 @@ CutBlock = Leaves
       pool = record empty_pool { modes = Verify ∷ replicate 15 On };
       table = record empty_table { zap = []; active = changes.Entry (entry (own_key a) 40 1 1000 0) ∷ [] };
       blocks = λ place. if place == 40 then 97 ∷ 0 ∷ 0 ∷ [] else [];
+      sectors = 2048;
+      pages = [];
     })
     (commands 2000 ((1, write a) ∷ []) ∷ [])
     (told 2 (new ∷ []) [] ∷ [])
@@ -179,10 +181,12 @@ two_named = record {
   pool = record empty_pool { pointers = pointer 1 a 32 1 plain ∷ [] };
   table = record empty_table { active = changes.Entry (entry (own_key b) 33 1 1000 0) ∷ [] };
   blocks = λ place. b;
+  sectors = 2048;
+  pages = 40 ∷ [];
 }
 
 abbrev pub IsFreeThere : (place : ℕ) → Type 0
-IsFreeThere place = IsFree 2048 (40 ∷ []) two_named place 1
+IsFreeThere place = IsFree two_named place 1
 
 -- a place is free that no pointer, waiting home or page names, behind the ring and on the disk; two runs are apart
 pub record FreePlaces : Type 0 where
@@ -193,14 +197,14 @@ pub record FreePlaces : Type 0 where
   pub page : IsFreeThere 40 → ⊥
   pub ring : IsFreeThere 31 → ⊥
   pub behind : IsFreeThere 2048 → ⊥
-  pub twice : AreFresh (IsFree 2048 [] first_standing) ((34, 1) ∷ (34, 1) ∷ []) → ⊥
-  pub apart : AreFresh (IsFree 2048 [] first_standing) ((34, 1) ∷ (33, 1) ∷ [])
+  pub twice : AreFresh (IsFree new_pool) ((34, 1) ∷ (34, 1) ∷ []) → ⊥
+  pub apart : AreFresh (IsFree new_pool) ((34, 1) ∷ (33, 1) ∷ [])
   pub used : used_sectors 42 (40 ∷ []) two_named.pool two_named.table ≡ replicate 34 true ++ replicate 6 false ++ true ∷ false ∷ []
   pub free : free_count 42 (40 ∷ []) two_named.pool two_named.table ≡ 7
 
 -- whether these are notes of a run of one write
 abbrev pub AreNotes : List Told → Type 0
-AreNotes notes = NotesRun lane_by_lane (always_sealed (IsFree 2048 [])) own_key (commands 1000 ((1, write a) ∷ []) ∷ []) notes first_standing
+AreNotes notes = AreNotesOf always_sealed (rules_by own_key) new_pool (commands 1000 ((1, write a) ∷ []) ∷ []) notes
 
 -- notes that tell something else than a run are none of its notes
 pub record OtherNotes : Type 0 where

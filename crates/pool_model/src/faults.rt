@@ -9,8 +9,10 @@ use std::alloc::AllocError;
 pub enum SyncFault {
     /// A read of the disk failed.
     ReadFault,
-    /// A meter, a write or a barrier of the disk failed.
+    /// A meter, a write or a barrier of the disk failed, before the gate of a group's seal was written.
     WriteFault,
+    /// The write of the gate of a group's seal failed, or the barrier behind it: the group may be sealed or not.
+    GateFault,
     /// The image stands for no pool: what was found at this sector is not what has to stand there.
     Damaged(u64),
     /// There was no memory.

@@ -1,5 +1,5 @@
 ghost use Rattle.pool_model.specs.WorkedRuns.{OneWrite, SharedWrite, TakenSlot, FullQuota, RoomAgain, PrunedByAge, LoosePointer, PrunedByShare, VerifiedBytes, EmptySlot, MixedLanes};
-ghost use Rattle.pool_model.specs.WorkedTurns.{WaitingHome, TwoLanes, FailedReads, SpoiltBlock, NoRoom};
+ghost use Rattle.pool_model.specs.WorkedTurns.{WaitingHome, TwoLanes, FailedReads, SpoiltBlock, NoRoom, CutGroup};
 ghost use Rattle.pool_model.specs.WorkedTables.{OneChange, SwapByAge, Flushed, GoneKey, FlushedInParts, LimitBefore, SwapWaits, SwapByKeys, LongFlush};
 ghost use Rattle.pool_model.specs.WorkedFacts.{RefusedFiles, EdgeFile, ReadFiles, Limits, Digests, Needs, Premise, HoldTogether, Counted};
 ghost use Rattle.pool_model.specs.WorkedLeft.{LaterHit, TakenUp, NewMoment, NoChange, QuotaFirst, OffLane, OtherLaneOff, ReadsNothing, WaitsAgain, BytesKept, OldestFirst, PlainStays, QuotaByKeys, CutBlock, Ordered, FreePlaces, OtherNotes};
@@ -25,8 +25,8 @@ pub fn worked_runs()
     ensures no_room { NoRoom }
 {}
 
-/// Worked groups, with the pointers and the table that stand after them, which places are free, and which notes
-/// are none of a run.
+/// Worked groups, with the pointers and the table that stand after them, which places are free, which notes
+/// are none of a run, and what a crash may leave of one that was cut.
 pub fn worked_groups()
     ensures later_hit { LaterHit }
     ensures taken_up { TakenUp }
@@ -45,6 +45,7 @@ pub fn worked_groups()
     ensures ordered { Ordered }
     ensures free_places { FreePlaces }
     ensures other_notes { OtherNotes }
+    ensures cut_group { CutGroup }
 {}
 
 /// Worked syncs of the dedup table: what is logged, when the logs swap, and what is flushed.

@@ -16,10 +16,10 @@ use Rattle.pool_model.specs.Run.{Room, NotesRun, ended_items, last_standing, pag
 use Rattle.pool_model.specs.Crash.{AnyStands, StandsAt, begun, begun_item, begun_group, begun_by}
 use Rattle.pool_model.specs.Text.{report}
 use Rattle.pool_model.proofs.Laws.{report-append}
-use Rattle.run_laws.specs.Items.{AreAmong}
-use Rattle.run_laws.proofs.Items.{none_begun, last_standing-append, ended-append, begun-append, run-append}
-use Rattle.run_laws.proofs.Stands.{any_left, any_right, at_right}
-use Rattle.run_laws.proofs.Clashes.{all_left, all_right, all_from, no_other_among, contents_of_item}
+use Rattle.pool_model.specs.Waiting.{AreAmong}
+use Rattle.pool_model.proofs.Steps.{none_begun, last_standing-append, ended-append, begun-append, run-append}
+use Rattle.pool_model.proofs.Stands.{any_left, any_right, at_right}
+use Rattle.pool_model.proofs.Clashes.{all_left, all_right, all_from, no_other_among, contents_of_item}
 use Rattle.table_state.specs.Pools.{Held}
 use Rattle.session.specs.Crashing.{Holds}
 use Rattle.session.specs.Entries.{IsOver, HasNoClashFrom}

@@ -134,6 +134,8 @@ new_is_sound tag sectors enough few = record {
   used_len = length-ring_used sectors;
   ring = λ sector within. ring_used-at sectors sector true (omega (arith, within, enough)) ∙ lt-ltb sector 32 within;
   slots_within = tt;
+  slots_rising = tt;
   within = record { zap = tt; flush = tt; active = tt };
   lengths = record { zap = tt; flush = tt; active = tt };
+  counts = λ key home found. absurd (cc found);
 }

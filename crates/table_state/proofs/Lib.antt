@@ -1,9 +1,11 @@
 pub mod Created
 pub mod FlatLaws
+pub mod Held
 pub mod Kept
 pub mod Lists
 pub mod PagesOf
 pub mod SealBack
+pub mod SlotCounts
 pub mod SlotLaws
 pub mod SlotsAfter
 pub mod Sorted

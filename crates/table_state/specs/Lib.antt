@@ -5,3 +5,5 @@ pub mod Pools
 pub mod Tables
 pub mod Sealed
 pub mod Sound
+pub mod Holding
+pub mod Closing

@@ -14,7 +14,7 @@ stats-requires c =
     ∙ ap (map (λ (slot : SlotRecord). slot.pointer.key)) c.as_slice.ensures
     ∙ ap (λ (h : Held). map (λ (slot : SlotRecord). slot.pointer.key) h.slots) c.pool.view_is
     in
-    AreSmall-slots c.args.pool.now c.as_slice-2.result.now c.requires (c.are_few.ensures.few c.if-not-are_few.false) keys
+    AreSmall-slots c.args.pool.now c.as_slice-2.result.now c.requires keys
 
 pub returns : goal.returns
 returns c image p table is =

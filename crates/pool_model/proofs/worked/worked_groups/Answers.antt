@@ -1,4 +1,5 @@
 use Rattle.pool_model.proofs.Left.{later_hit, taken_up, new_moment, no_change, quota_first, off_lane, other_lane_off, reads_nothing, waits_again, bytes_kept, oldest_first, plain_stays, quota_by_keys, cut_block, ordered, free_places, other_notes}
+use Rattle.pool_model.proofs.Turns.{cut_group}
 use Rattle.pool_model.proofs.worked.worked_groups.Goals as goal
 
 pub returns : goal.returns
@@ -20,4 +21,5 @@ returns c = record {
   ordered = ordered;
   free_places = free_places;
   other_notes = other_notes;
+  cut_group = cut_group;
 }
