@@ -1,5 +1,5 @@
 -- What calls of a disk leave of its size and of its counts of faults.
-use Rattle.std.specs.Prelude.{◌≡◌, ◌≤◌, Result, OnErr, IsErrOf}
+use Rattle.std.specs.Prelude.{◌≡◌, ◌≤◌, Result, OnErr}
 use Rattle.disk_model.specs.Crashes.{DiskState}
 use Rattle.disk_model.specs.Faults.{Rose}
 
@@ -13,9 +13,3 @@ pub record Keeps (before now : DiskState) : Type 0 where
 pub record Accounts {T E : Type 0} (before now : DiskState) (result : Result T E) : Type 0 where
   pub keeps : Keeps before now
   pub rose : OnErr result (Rose before.write_faults now.write_faults)
-
--- and the count of what failed rose, where the answer tells a read that failed from a write
-pub record AccountsFor {T E : Type 0} (before now : DiskState) (result : Result T E) (read write : E) : Type 0 where
-  pub keeps : Keeps before now
-  pub read_cause : IsErrOf result read → Rose before.read_faults now.read_faults
-  pub write_cause : IsErrOf result write → Rose before.write_faults now.write_faults

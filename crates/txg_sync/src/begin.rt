@@ -1,9 +1,9 @@
 ghost use Rattle.std.specs.Prelude.{◌≡◌, ◌≤◌, Some, OnOk, IsErrOf};
 ghost use Rattle.disk_model.specs.Images.{Image, Stays};
 ghost use Rattle.disk_model.specs.Crashes.{LeavesOnly, NothingPending};
-ghost use Rattle.disk_model.specs.Accounts.{AccountsFor};
+ghost use Rattle.txg_sync.specs.SyncFaults.{SealAccounts};
 ghost use Rattle.txg_sync.specs.Stages.{Begins, Beginning, HasNoSeal};
-ghost use Rattle.txg_sync.specs.declared.fault.SealFault.TheVariants.{ReadFault, WriteFault};
+ghost use Rattle.txg_sync.specs.declared.fault.SealFault.TheVariants.{ReadFault};
 
 use crate::fault::SealFault;
 use crate::fill::fill_slot;
@@ -24,7 +24,7 @@ pub fn seal_new_pool<D: Disk>(disk: &mut D, tag: u8) -> Result<(), SealFault>
         → LeavesOnly (D.state disk.old) (D.state disk.new) (Beginning tag image) }
     ensures unread { IsErrOf result ReadFault → Stays (D.state disk.old).seen (D.state disk.new).seen }
     ensures unread_crash { IsErrOf result ReadFault → (c : Image) → (D.state disk.new).may_leave c → (D.state disk.old).may_leave c }
-    ensures accounts { AccountsFor (D.state disk.old) (D.state disk.new) result ReadFault WriteFault }
+    ensures accounts { SealAccounts (D.state disk.old) (D.state disk.new) result }
 {
     crash_laws(disk);
     let seal = new_seal(tag, disk.sectors());

@@ -1,10 +1,10 @@
 ghost use Rattle.std.specs.Prelude.{◌≡◌, ◌≤◌, ℕ, Some, IfOk, OnOk, IsErrOf};
 ghost use Rattle.disk_model.specs.Images.{Image, Stays};
 ghost use Rattle.disk_model.specs.Crashes.{LeavesOnly, NothingPending};
-ghost use Rattle.disk_model.specs.Accounts.{AccountsFor};
-ghost use Rattle.pool_model.specs.declared.faults.SyncFault.TheVariants.{ReadFault, WriteFault, Damaged, Memory};
+ghost use Rattle.pool_model.specs.declared.faults.SyncFault.TheVariants.{ReadFault, Damaged, Memory};
 ghost use Rattle.table_state.specs.Sound.{IsSound};
 ghost use Rattle.table_state.specs.Pools.{new_held};
+ghost use Rattle.txg_sync.specs.SyncFaults.{SyncAccounts};
 ghost use Rattle.txg_sync.specs.Stages.{Beginning, Creates, HasNoSeal};
 
 use crate::begin::seal_new_pool;
@@ -51,7 +51,7 @@ pub fn create<D: Disk>(alloc: Global, disk: &mut D, tag: u8) -> Result<Pool, Syn
     ensures whole { (sector : ℕ) → IsErrOf result (Damaged sector) → ⊥ }
     ensures unread { IsErrOf result ReadFault → Stays (D.state disk.old).seen (D.state disk.new).seen }
     ensures unread_crash { IsErrOf result ReadFault → (c : Image) → (D.state disk.new).may_leave c → (D.state disk.old).may_leave c }
-    ensures accounts { AccountsFor (D.state disk.old) (D.state disk.new) result ReadFault WriteFault }
+    ensures accounts { SyncAccounts (D.state disk.old) (D.state disk.new) result }
 {
     crash_laws(disk);
     let Ok(pool) = new_pool(alloc, tag, disk.sectors()) else {

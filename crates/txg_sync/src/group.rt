@@ -1,14 +1,14 @@
 ghost use Rattle.std.specs.Prelude.{◌≡◌, ◌≤◌, ◌<◌, [], ℕ, Some, length, map, All, OnOk, IsErrOf};
 ghost use Rattle.disk_model.specs.Images.{Image, Stays};
 ghost use Rattle.disk_model.specs.Crashes.{LeavesOnly, NothingPending};
-ghost use Rattle.disk_model.specs.Accounts.{AccountsFor};
 ghost use Rattle.page_tree.specs.Chains.{pages_for, AreOpen};
 ghost use Rattle.uber_ring.specs.Ring.{slot_of};
 ghost use Rattle.pool_model.specs.Plain.{stored_of};
 ghost use Rattle.table_state.specs.Sealed.{places_in};
+ghost use Rattle.txg_sync.specs.SyncFaults.{SealAccounts};
 ghost use Rattle.txg_sync.specs.Stages.{Fills};
 ghost use Rattle.txg_sync.specs.Writing.{with_roots, group_places, FollowsSeal, IsUnsealed, MayBeSealed, Seals};
-ghost use Rattle.txg_sync.specs.declared.fault.SealFault.TheVariants.{ReadFault, WriteFault};
+ghost use Rattle.txg_sync.specs.declared.fault.SealFault.TheVariants.{ReadFault};
 
 use crate::fault::SealFault;
 use crate::fill::fill_slot;
@@ -53,7 +53,7 @@ pub fn fill_group<D: Disk>(
         (IsUnsealed (slot_of seal.now.group) (group_places (map stored_of contents.now) parts.now) image) }
     ensures unread { IsErrOf result ReadFault → Stays (D.state disk.old).seen (D.state disk.new).seen }
     ensures unread_crash { IsErrOf result ReadFault → (c : Image) → (D.state disk.new).may_leave c → (D.state disk.old).may_leave c }
-    ensures accounts { AccountsFor (D.state disk.old) (D.state disk.new) result ReadFault WriteFault }
+    ensures accounts { SealAccounts (D.state disk.old) (D.state disk.new) result }
 {
     crash_laws(disk);
     let _sectors = disk.sectors();
@@ -97,7 +97,7 @@ pub fn seal_group<D: Disk>(
         (MayBeSealed (slot_of seal.now.group) (map stored_of contents.now) parts.now (with_roots seal.now parts.now) image) }
     ensures unread { IsErrOf result ReadFault → Stays (D.state disk.old).seen (D.state disk.new).seen }
     ensures unread_crash { IsErrOf result ReadFault → (c : Image) → (D.state disk.new).may_leave c → (D.state disk.old).may_leave c }
-    ensures accounts { AccountsFor (D.state disk.old) (D.state disk.new) result ReadFault WriteFault }
+    ensures accounts { SealAccounts (D.state disk.old) (D.state disk.new) result }
 {
     crash_laws(disk);
     let _sectors = disk.sectors();

@@ -1,16 +1,15 @@
 ghost use Rattle.std.specs.Prelude.{◌≡◌, ◌≤◌, ◌+◌, ℕ, Some, None, length, IfOk, OnOk, OnErr, IsErrOf};
 ghost use Rattle.disk_model.specs.Images.{Image, Stays};
 ghost use Rattle.disk_model.specs.Crashes.{LeavesOnly, NothingPending};
-ghost use Rattle.disk_model.specs.Accounts.{AccountsFor};
 ghost use Rattle.pool_model.specs.Pool.{Pool as APool};
 ghost use Rattle.pool_model.specs.Table.{TableState};
-ghost use Rattle.pool_model.specs.declared.faults.SyncFault.TheVariants.{ReadFault, WriteFault, Damaged, Memory};
+ghost use Rattle.pool_model.specs.declared.faults.SyncFault.TheVariants.{ReadFault, Damaged, Memory};
 ghost use Rattle.table_state.specs.Pools.{IsHeld};
 ghost use Rattle.table_state.specs.SealForms.{last_group};
 ghost use Rattle.table_state.specs.Sound.{IsSound};
 ghost use Rattle.txg_sync.specs.Placing.{pages_of};
 ghost use Rattle.txg_sync.specs.Planning.{group_in, IsNext, IsPlan};
-ghost use Rattle.txg_sync.specs.SyncFaults.{sync_fault_of};
+ghost use Rattle.txg_sync.specs.SyncFaults.{sync_fault_of, SyncAccounts};
 ghost use Rattle.txg_sync.specs.Syncing.{IsInRange, CanSync, CanSyncOver, SyncLeaves, Syncs, records_after};
 
 use crate::fault::SealFault;
@@ -51,7 +50,7 @@ pub fn sync<D: Disk>(
     ensures damaged { (sector : ℕ) → IsErrOf result (Damaged sector) → (disk.new ≡ disk.old) × ((D.state disk.old).seen ≡ None) }
     ensures unread { IsErrOf result ReadFault → Stays (D.state disk.old).seen (D.state disk.new).seen }
     ensures unread_crash { IsErrOf result ReadFault → (c : Image) → (D.state disk.new).may_leave c → (D.state disk.old).may_leave c }
-    ensures accounts { AccountsFor (D.state disk.old) (D.state disk.new) result ReadFault WriteFault }
+    ensures accounts { SyncAccounts (D.state disk.old) (D.state disk.new) result }
 {
     crash_laws(disk);
     let _sectors = disk.sectors();
@@ -91,7 +90,7 @@ fn write_plan<D: Disk>(
     ensures whole { (sector : ℕ) → IsErrOf result (Damaged sector) → ⊥ }
     ensures unread { IsErrOf result ReadFault → Stays (D.state disk.old).seen (D.state disk.new).seen }
     ensures unread_crash { IsErrOf result ReadFault → (c : Image) → (D.state disk.new).may_leave c → (D.state disk.old).may_leave c }
-    ensures accounts { AccountsFor (D.state disk.old) (D.state disk.new) result ReadFault WriteFault }
+    ensures accounts { SyncAccounts (D.state disk.old) (D.state disk.new) result }
 {
     let _sectors = disk.sectors();
     let Plan { next, parts, seal } = planned;

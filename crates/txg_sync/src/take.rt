@@ -1,9 +1,9 @@
 ghost use Rattle.std.specs.Prelude.{◌≡◌, ◌≤◌, ◌<◌, Some, OnOk, IsErrOf};
 ghost use Rattle.disk_model.specs.Images.{Image, Stays};
 ghost use Rattle.disk_model.specs.Crashes.{LeavesOnly, NothingPending};
-ghost use Rattle.disk_model.specs.Accounts.{AccountsFor};
+ghost use Rattle.txg_sync.specs.SyncFaults.{SealAccounts};
 ghost use Rattle.txg_sync.specs.Stages.{TakingLeaves, Takes};
-ghost use Rattle.txg_sync.specs.declared.fault.SealFault.TheVariants.{ReadFault, WriteFault};
+ghost use Rattle.txg_sync.specs.declared.fault.SealFault.TheVariants.{ReadFault};
 
 use crate::fault::SealFault;
 use disk_model::{Disk, crash_laws};
@@ -20,7 +20,7 @@ pub fn take_slot<D: Disk>(disk: &mut D, slot: u32) -> Result<(), SealFault>
         → LeavesOnly (D.state disk.old) (D.state disk.new) (TakingLeaves slot image) }
     ensures unread { IsErrOf result ReadFault → Stays (D.state disk.old).seen (D.state disk.new).seen }
     ensures unread_crash { IsErrOf result ReadFault → (c : Image) → (D.state disk.new).may_leave c → (D.state disk.old).may_leave c }
-    ensures accounts { AccountsFor (D.state disk.old) (D.state disk.new) result ReadFault WriteFault }
+    ensures accounts { SealAccounts (D.state disk.old) (D.state disk.new) result }
 {
     crash_laws(disk);
     let _sectors = disk.sectors();
