@@ -1,10 +1,10 @@
 ghost use Rattle.std.specs.Prelude.{◌≡◌, ◌≤◌, ℕ, IfOk, IfSome, IfNone, OnOk, IsErrOf};
 ghost use Rattle.disk_model.specs.Images.{Stays};
 ghost use Rattle.disk_model.specs.Crashes.{LeavesOnly, NothingPending};
-ghost use Rattle.disk_model.specs.Accounts.{AccountsFor};
+ghost use Rattle.disk_model.specs.Faults.{Rose};
 ghost use Rattle.pool_model.specs.Pool.{Pool as APool};
 ghost use Rattle.pool_model.specs.Table.{TableState};
-ghost use Rattle.pool_model.specs.declared.faults.SyncFault.TheVariants.{Damaged, ReadFault, WriteFault};
+ghost use Rattle.pool_model.specs.declared.faults.SyncFault.TheVariants.{Damaged, ReadFault, WriteFault, GateFault};
 ghost use Rattle.table_state.specs.Flat.{HasNoPool, IsDamaged};
 ghost use Rattle.table_state.specs.Pools.{IsHeld};
 ghost use Rattle.table_state.specs.Sound.{IsSound};
@@ -27,6 +27,7 @@ pub fn import<D: Disk, K: KeyOf>(
     disk: &mut D,
     keyer: &K,
 ) -> Result<Option<Pool>, SyncFault>
+    ensures sectors { (D.state disk.new).sectors ≡ (D.state disk.old).sectors }
     ensures stays { Stays (D.state disk.old).seen (D.state disk.new).seen }
     ensures none { IfOk result (λ found. IfNone found (IfSome (D.state disk.old).seen HasNoPool)) }
     ensures pool { IfOk result (λ found. IfSome found (λ held.
@@ -35,9 +36,13 @@ pub fn import<D: Disk, K: KeyOf>(
     ensures sound { IfOk result (λ found. IfSome found IsSound) }
     ensures on_disk { IfOk result (λ found. IfSome found (λ held. held.sectors ≤ (D.state disk.new).sectors)) }
     ensures damaged { (sector : ℕ) → IsErrOf result (Damaged sector) → IfSome (D.state disk.old).seen (IsDamaged (K.keying keyer.now).tag) }
+    ensures gate { IsErrOf result GateFault → ⊥ }
     ensures durable { OnOk result (NothingPending (D.state disk.old).seen (D.state disk.new).may_leave) }
     ensures any_moment { LeavesOnly (D.state disk.old) (D.state disk.new) (D.state disk.old).may_leave }
-    ensures accounts { AccountsFor (D.state disk.old) (D.state disk.new) result ReadFault WriteFault }
+    ensures reads { (D.state disk.old).read_faults ≤ (D.state disk.new).read_faults }
+    ensures writes { (D.state disk.old).write_faults ≤ (D.state disk.new).write_faults }
+    ensures read_cause { IsErrOf result ReadFault → Rose (D.state disk.old).read_faults (D.state disk.new).read_faults }
+    ensures write_cause { IsErrOf result WriteFault → Rose (D.state disk.old).write_faults (D.state disk.new).write_faults }
 {
     crash_laws(disk);
     let tag = keyer.tag();
