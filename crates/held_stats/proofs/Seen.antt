@@ -4,13 +4,12 @@ use Rattle.std.proofs.lemmas.List.Elements.{All-map, All-nil, All-cons, All-head
 use Rattle.ddt_entry.specs.declared.key.Key.{Key}
 use Rattle.disk_model.specs.Images.{Image}
 use Rattle.pool_model.specs.Pool.{Pool, Pairwise}
-use Rattle.pool_model.specs.Table.{TableState}
+use Rattle.pool_model.specs.Table.{TableState, IsTable}
 use Rattle.pool_stats.specs.References.{reference_of, AreSmall}
 use Rattle.pool_stats.specs.declared.reference.Reference.{Reference}
 use Rattle.table_state.specs.Flat.{pointer_of, stands_before}
 use Rattle.table_state.specs.Pools.{Held, IsHeld}
 use Rattle.table_state.specs.Sound.{IsSound}
-use Rattle.table_state.specs.Tables.{IsTable}
 use Rattle.table_state.proofs.TableBack.{is_table_in}
 use Rattle.table_state.specs.declared.slot_record.SlotRecord.{SlotRecord}
 use Rattle.held_stats.specs.Slots.{reference_in}

@@ -14,7 +14,7 @@ use Rattle.pool_model.specs.Plain.{Act, write, read, free, Task, Reply, Stored, 
 use Rattle.pool_model.specs.Clash.{written_by, contents_in}
 use Rattle.pool_model.specs.Command.{Opening, Turn, Course, Row, Spot, nowhere, at_home, at_fresh, is_fault, after}
 use Rattle.pool_model.specs.Group.{Standing, opening_of, opened, course_of}
-use Rattle.table_state.specs.Flat.{counted_homes}
+use Rattle.pool_model.specs.Table.{counted_homes}
 use Rattle.table_state.specs.Pools.{Held}
 use Rattle.table_state.specs.Sound.{IsSound}
 use Rattle.txg_sync.specs.Writing.{block_places}

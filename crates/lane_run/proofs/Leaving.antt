@@ -15,7 +15,7 @@ use Rattle.ddt_entry.specs.Records.{IsKeyLength}
 use Rattle.disk_model.specs.Images.{Image, sector_at}
 use Rattle.grant_book.specs.Sectors.{AreFirstFree}
 use Rattle.pool_model.specs.Pool.{Pool, Pointer, with_key, Pairwise, IsApart, IsWellFormed, run_length}
-use Rattle.pool_model.specs.Table.{TableState, Matches, found, sync_table, waiting_in, flush_limit, IsApartFrom}
+use Rattle.pool_model.specs.Table.{TableState, Matches, found, sync_table, waiting_in, flush_limit, IsApartFrom, IsTable, AreChangesRising}
 use Rattle.pool_model.specs.Plain.{Act, write, read, free, Task, Reply, Stored}
 use Rattle.pool_model.specs.Clash.{contents_in}
 use Rattle.pool_model.specs.Command.{Opening, Turn, Course, known_home}
@@ -23,34 +23,32 @@ use Rattle.pool_model.specs.Group.{Standing, opening_of, IsFree, AreFresh, chang
 use Rattle.pool_model.specs.Space.{need}
 use Rattle.uber_ring.specs.declared.seal.Seal.{Seal}
 use Rattle.table_state.specs.SealForms.{is_formed, has_size, has_flags, has_modes, has_checkpoint, fewest_sectors, most_sectors}
-use Rattle.table_state.specs.Tables.{IsTable, AreChangesRising}
 use Rattle.table_state.specs.Pools.{Held, slots_after, pool_after, with_blocks, block_sector}
 use Rattle.table_state.specs.declared.slot_record.SlotRecord.{SlotRecord}
 use Rattle.table_state.proofs.UsedLaws.{one_sector}
 use Rattle.txg_sync.specs.Syncing.{CanSync, IsNamed, group_pool, table_after}
 use Rattle.txg_sync.specs.Writing.{block_places}
 use Rattle.txg_sync.proofs.RoomLaws.{need_enough}
-use Rattle.held_laws.specs.Slots.{slot_of, refilled, refilled_pool}
-use Rattle.held_laws.proofs.BlocksOf.{beside_blocks, blocks_placed}
-use Rattle.held_laws.proofs.Refilled.{well_formed_refilled, matches_refilled, pool_refilled}
-use Rattle.held_laws.proofs.SoundOf.{pointer_lengths}
-use Rattle.held_laws.proofs.UnusedOf.{found_fresh}
-use Rattle.table_laws.specs.Homes.{GivesOwnChanges, found_with}
-use Rattle.table_laws.proofs.Lookups.{found_has}
-use Rattle.table_laws.proofs.Named.{named_rising, change_at-named}
-use Rattle.table_laws.proofs.Matching.{matches_synced}
-use Rattle.table_laws.proofs.Synced.{found-synced, there_stays}
-use Rattle.table_laws.proofs.Waiting.{waiting_has, waiting_found, waiting_synced}
-use Rattle.table_state.proofs.Syncing.{sync_keeps}
+use Rattle.table_state.specs.Slots.{slot_of, refilled, refilled_pool}
+use Rattle.table_state.proofs.BlocksOf.{beside_blocks, blocks_placed}
+use Rattle.table_state.proofs.Refilled.{well_formed_refilled, matches_refilled, pool_refilled}
+use Rattle.table_state.proofs.SoundOf.{pointer_lengths}
+use Rattle.table_state.proofs.UnusedOf.{found_fresh}
+use Rattle.pool_model.specs.Homes.{GivesOwnChanges, found_with}
+use Rattle.pool_model.proofs.Lookups.{found_has}
+use Rattle.pool_model.proofs.Named.{named_rising, change_at-named}
+use Rattle.pool_model.proofs.Matching.{matches_synced}
+use Rattle.pool_model.proofs.Synced.{found-synced, there_stays}
+use Rattle.pool_model.proofs.Waiting.{waiting_has, waiting_found, waiting_synced}
 use Rattle.pool_model.specs.Waiting.{IsIn, WaitingStays}
-use Rattle.pool_model.proofs.Clashes.{all_in}
 use Rattle.pool_model.proofs.Kept.{waiting_stays}
 use Rattle.pool_model.specs.ByKey.{IsUnnamedByKey, AreFreshByKey, ChangesByKey, MatchesByKey, home_after, IsWrite}
-use Rattle.pool_model.proofs.Pointers.{all_from}
 use Rattle.pool_model.proofs.Counts.{course_counts}
 use Rattle.pool_model.proofs.Aside.{before_opened}
 use Rattle.pool_model.proofs.Going.{IsGoing, going_all, going_matches}
 use Rattle.pool_model.proofs.Writing.{kept_formed, written_all, written_waits}
+use Rattle.pool_model.proofs.Syncing.{sync_keeps}
+use Rattle.pool_model.proofs.Lists.{all_in, all_from}
 use Rattle.lane_run.specs.Groups.{StandsOver, IsFirstWrite, WritesBlock}
 use Rattle.lane_run.specs.Going.{IsCourse, IsPlaced, Stands, Trusted, turns_from, first_course}
 use Rattle.lane_run.specs.Live.{Live, sector_or, sector_here, first_mode, changes_here, group_here}

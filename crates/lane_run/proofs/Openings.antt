@@ -12,19 +12,19 @@ use Rattle.ddt_entry.specs.Keys.{key_eq}
 use Rattle.ddt_entry.specs.Changes.{key_in}
 use Rattle.disk_model.specs.Images.{Image}
 use Rattle.pool_model.specs.Pool.{IsApart, run_length, IsWellFormed}
-use Rattle.pool_model.specs.Table.{TableState, found, found_over, home_in, change_at, entry_at}
+use Rattle.pool_model.specs.Table.{TableState, found, found_over, home_in, change_at, entry_at, IsTable}
 use Rattle.pool_model.specs.Group.{Standing}
 use Rattle.table_state.specs.Flat.{IsWithin, IsChangeWithin}
-use Rattle.table_state.specs.Tables.{IsTable, IsTableWithin}
+use Rattle.table_state.specs.Tables.{IsTableWithin}
 use Rattle.table_state.specs.Pools.{Held}
 use Rattle.table_state.specs.Sound.{IsSound, HasKeyLengths}
 use Rattle.table_state.proofs.TableBack.{is_table_in}
 use Rattle.table_state.proofs.UsedLaws.{waiting_runs}
-use Rattle.held_laws.proofs.SoundOf.{held_sound}
-use Rattle.held_laws.proofs.UnusedOf.{unused_free}
-use Rattle.table_laws.specs.Homes.{HomesMatch}
-use Rattle.table_laws.proofs.Waiting.{waiting_has}
-use Rattle.table_laws.proofs.Matching.{matches_read}
+use Rattle.table_state.proofs.SoundOf.{held_sound}
+use Rattle.table_state.proofs.UnusedOf.{unused_free}
+use Rattle.pool_model.specs.Homes.{HomesMatch}
+use Rattle.pool_model.proofs.Waiting.{waiting_has}
+use Rattle.pool_model.proofs.Matching.{matches_read}
 use Rattle.pool_model.specs.ByKey.{MatchesByKey}
 use Rattle.lane_run.specs.Groups.{StandsOver}
 use Rattle.lane_run.proofs.Places.{used_either}

@@ -18,12 +18,12 @@ use Rattle.pool_model.specs.Command.{Spot, nowhere, at_home, at_fresh, Row}
 use Rattle.table_state.specs.Pools.{Held}
 use Rattle.table_state.specs.Sound.{IsSound}
 use Rattle.txg_sync.specs.Writing.{block_places}
-use Rattle.held_laws.proofs.UnusedOf.{found_unused}
-use Rattle.pool_model.proofs.Pointers.{all_from}
+use Rattle.table_state.proofs.UnusedOf.{found_unused}
 use Rattle.lane_run.specs.Live.{Live, or_below, home_here, put_home, put_at, with_first, brought, shared, after_row, IsHomeOf, IsReady}
 use Rattle.lane_run.proofs.Places.{IsNew, all_more}
 use Rattle.lane_run.proofs.Openings.{found_within}
 use Rattle.lane_run.proofs.Stored.{found_has}
+use Rattle.pool_model.proofs.Lists.{all_from}
 
 -- a home's place lies on the disk, and after so many writes it counts so few
 pub record IsCounted (sectors i : ℕ) (home : Home) : Type 0 where

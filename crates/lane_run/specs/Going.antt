@@ -21,7 +21,7 @@ use Rattle.pool_model.specs.Group.{Standing, opening_of, course_of}
 use Rattle.table_state.specs.Pools.{Held, slots_after}
 use Rattle.txg_sync.specs.Syncing.{IsNamed}
 use Rattle.txg_sync.specs.Writing.{block_places}
-use Rattle.held_laws.specs.Slots.{slot_of}
+use Rattle.table_state.specs.Slots.{slot_of}
 use Rattle.lane_run.specs.Groups.{StandsOver}
 use Rattle.lane_run.specs.Live.{Live, is_taken, home_here, sector_here, first_mode}
 

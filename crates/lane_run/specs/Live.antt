@@ -19,7 +19,7 @@ use Rattle.pool_model.specs.Command.{Opening, Known, Spot, nowhere, at_home, at_
 use Rattle.pool_model.specs.Group.{settled, change_from}
 use Rattle.table_state.specs.Pools.{Held, is_slot_at, block_sector}
 use Rattle.txg_sync.specs.Planning.{Group}
-use Rattle.held_laws.specs.Slots.{change_to}
+use Rattle.table_state.specs.Slots.{change_to}
 
 -- what a group has come to: the changes of the slots, the blocks that it stored, the homes that it made or changed, the keys that it named, how many keys are counted, and the replies
 pub record Live : Type 0 where

@@ -6,7 +6,7 @@ ghost use Rattle.disk_model.specs.Images.{Stays};
 ghost use Rattle.disk_model.specs.Crashes.{LeavesOnly, SameOutcomes};
 ghost use Rattle.grant_book.specs.Sectors.{AreFirstFree};
 ghost use Rattle.pool_model.specs.Plain.{task_of};
-ghost use Rattle.table_state.specs.Flat.{counted_homes};
+ghost use Rattle.pool_model.specs.Table.{counted_homes};
 ghost use Rattle.table_state.specs.Sound.{IsSound};
 ghost use Rattle.lane_run.specs.Groups.{IsFirstWrite};
 ghost use Rattle.lane_run.specs.Going.{HasRunFree, HasRunOver, OnlyMeter};

@@ -10,8 +10,7 @@ ghost use Rattle.pool_model.specs.declared.faults.GroupFault.TheVariants as faul
 ghost use Rattle.pool_model.specs.declared.notes.Outcome.TheVariants as outcomes;
 ghost use Rattle.pool_model.specs.Plain.{task_of};
 ghost use Rattle.pool_model.specs.Space.{need, space_lacking};
-ghost use Rattle.pool_model.specs.Table.{flush_limit};
-ghost use Rattle.table_state.specs.Flat.{counted_homes};
+ghost use Rattle.pool_model.specs.Table.{flush_limit, counted_homes};
 ghost use Rattle.table_state.specs.Sound.{IsSound};
 ghost use Rattle.lane_run.specs.Groups.{IsFirstWrite};
 ghost use Rattle.lane_run.specs.Going.{HasRunOver, OnlyMeter, Opens};

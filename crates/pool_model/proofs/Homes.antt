@@ -25,14 +25,16 @@ home_now left (p ∷ ps) = Some (home_at p (length (p ∷ ps)))
 
 -- the home that a course knows is that one
 pub known_home-now : (opening : Opening) (key : Key) (before : Option Home) (last : Option Pointer) (ps : List Pointer)
-    → option_map (λ known. known.home) (known_or (known_in_table opening key before) (length ps) (or_in last ps)) ≡ home_now (left_by before last) ps
+    → option_map (λ known. known.home) (known_or (known_in_table opening key before) (length ps) (or_in last ps)) ≡ home_now
+    (left_by before last) ps
 known_home-now opening key before last (p ∷ ps) = refl
 known_home-now opening key before (Some p) [] = refl
 known_home-now opening key None None [] = refl
 known_home-now opening key (Some home) None [] = refl
 
 -- one pool more
-pub left_by-later : (before : Option Home) (last : Option Pointer) (ps : List Pointer) → left_by before (or_in last ps) ≡ left_after (left_by before last) ps
+pub left_by-later : (before : Option Home) (last : Option Pointer) (ps : List Pointer)
+    → left_by before (or_in last ps) ≡ left_after (left_by before last) ps
 left_by-later before last [] = refl
 left_by-later before last (p ∷ ps) = refl
 
@@ -42,12 +44,15 @@ home_now-later left [] = refl
 home_now-later left (p ∷ ps) = refl
 
 -- the home is that of the counted pointers, where what is left isn't counted
-pub counted_now : (left : Option Home) (ps : List Pointer) → (ps ≡ [] → counted left ≡ None) → counted (home_now left ps) ≡ home_of_pointers ps
+pub counted_now : (left : Option Home) (ps : List Pointer) → (ps ≡ [] → counted left ≡ None)
+    → counted (home_now left ps) ≡ home_of_pointers ps
 counted_now left [] uncounted = uncounted refl
-counted_now left (p ∷ ps) uncounted = let some : nat_lt 0 (length (p ∷ ps)) ≡ true = grind (arith, nat_tests) in ap (λ b. cond b (Some (home_at p (length (p ∷ ps)))) None) some
+counted_now left (p ∷ ps) uncounted = let some : nat_lt 0 (length (p ∷ ps)) ≡ true = grind (arith, nat_tests) in
+    ap (λ b. cond b (Some (home_at p (length (p ∷ ps)))) None) some
 
 -- a home that isn't counted is one that is left, of a key without counted pointers
-pub left_now : (left : Option Home) (ps : List Pointer) (home : Home) → home_now left ps ≡ Some home → nat_lt 0 home.count ≡ false → (ps ≡ []) × (left ≡ Some home)
+pub left_now : (left : Option Home) (ps : List Pointer) (home : Home) → home_now left ps ≡ Some home → nat_lt 0 home.count ≡ false
+    → (ps ≡ []) × (left ≡ Some home)
 left_now left [] home is none = (refl, is)
 left_now left (p ∷ ps) home is none =
     let some : nat_lt 0 (length (p ∷ ps)) ≡ true = grind (arith, nat_tests) in
@@ -55,8 +60,10 @@ left_now left (p ∷ ps) home is none =
     absurd (cc (some, count, none))
 
 -- a home that is counted is that of its first pointer
-pub first_now : (left : Option Home) (ps : List Pointer) (home : Home) → home_now left ps ≡ Some home → nat_lt 0 home.count ≡ true → (ps ≡ [] → counted left ≡ None)
-    → (p : Pointer) × (rest : List Pointer) × (ps ≡ p ∷ rest) × (home.place ≡ p.place) × (home.birth ≡ p.birth) × (home.since ≡ since_of p.mark)
+pub first_now : (left : Option Home) (ps : List Pointer) (home : Home) → home_now left ps ≡ Some home → nat_lt 0 home.count ≡ true
+    → (ps ≡ [] → counted left ≡ None)
+    → (p : Pointer) × (rest : List Pointer) × (ps ≡ p ∷ rest) × (home.place ≡ p.place) × (home.birth ≡ p.birth)
+    × (home.since ≡ since_of p.mark)
 first_now left [] home is some uncounted =
     let said : counted (Some home) ≡ None = sym (ap counted is) ∙ uncounted refl in
     absurd (cc (some, said))
@@ -90,4 +97,5 @@ pub matched_home : (o : Option Home) (ps : List Pointer) → counted o ≡ home_
 matched_home o [] e = refl
 matched_home None (p ∷ ps) e = absurd (cc e)
 matched_home (Some h) (p ∷ ps) e =
-    elim (nat_lt 0 h.count) as (λ b. cond b (Some h) None ≡ home_of_pointers (p ∷ ps) → home_now (Some h) (p ∷ ps) ≡ Some h) [ true ↦ λ same. sym same | false ↦ λ none. absurd (cc none) ] e
+    elim (nat_lt 0 h.count) as (λ b. cond b (Some h) None ≡ home_of_pointers (p ∷ ps)
+    → home_now (Some h) (p ∷ ps) ≡ Some h) [ true ↦ λ same. sym same | false ↦ λ none. absurd (cc none) ] e

@@ -1,5 +1,5 @@
 -- The premise on clashes after a group: a content that has no other of its key before the group has none after it.
-use Rattle.std.proofs.Common.{◌≡◌, ℕ, Bool, true, false, cond, List, [], ◌∷◌, Some, inl, ⊎_elim, map, refl, sym, ap, ◌∙◌}
+use Rattle.std.proofs.Common.{◌≡◌, ℕ, Bool, true, false, cond, List, [], ◌∷◌, Some, inl, ⊎_elim, map, sym, ap, ◌∙◌}
 use Rattle.std.specs.Prelude.{take, ◌&&◌, ◌⊎◌}
 use Rattle.std.specs.List.{AllByRecursion, list_any}
 use Rattle.ddt_entry.specs.Keys.{Keying, key_eq}
@@ -14,8 +14,8 @@ use Rattle.pool_model.specs.Group.{Standing, lanes_in_turn}
 use Rattle.pool_model.specs.Run.{sealed_standing}
 use Rattle.pool_model.specs.Clash.{NoOther, HasNoOther, contents_in, group_contents}
 use Rattle.pool_model.specs.Waiting.{IsIn, AreAmong, WaitedBefore, WaitingStays, WaitsByPointer, WaitingComes}
-use Rattle.pool_model.proofs.Clashes.{all_from, all_at, all_in, among_all}
 use Rattle.pool_model.proofs.Made.{MadeFor, group_makes}
+use Rattle.pool_model.proofs.Lists.{all_from, all_at, all_in, among_all}
 
 -- where the key is this waiting home's, the content is its block's bytes
 abbrev NoOtherThere : (List ℕ → Key) → (ℕ → List ℕ) → List ℕ → Entry → Type 0
@@ -28,7 +28,8 @@ NoOtherIn key_of x p = key_of x ≡ p.key → x ≡ p.content
 -- where each waiting home stays, each comes from before
 pub stays_comes : (s after : Standing) → WaitingStays s after → WaitingComes s after
 stays_comes s after stays =
-    all_from (WaitedBefore s after) (λ (e : Entry). WaitedBefore s after e ⊎ WaitsByPointer s after e) (λ e stay. inl stay) (waiting_in after.table) stays
+    all_from (WaitedBefore s after) (λ (e : Entry). WaitedBefore s after e ⊎ WaitsByPointer s after e) (λ e stay. inl stay)
+    (waiting_in after.table) stays
 
 -- a home with the key and the bytes of a pointer has no other content, since the pointer has none
 by_pointer : (key_of : List ℕ → Key) (s after : Standing) (x : List ℕ) (e : Entry) → AllByRecursion (NoOtherIn key_of x) s.pool.pointers
@@ -36,25 +37,30 @@ by_pointer : (key_of : List ℕ → Key) (s after : Standing) (x : List ℕ) (e 
 by_pointer key_of s after x e all waits same =
     all_at (NoOtherIn key_of x) waits.pointer s.pool.pointers waits.was_there all (same ∙ sym waits.key_is) ∙ waits.bytes_are
 
-by_waiting : (key_of : List ℕ → Key) (s after : Standing) (x : List ℕ) (e : Entry) → AllByRecursion (NoOtherThere key_of s.blocks x) (waiting_in s.table)
+by_waiting : (key_of : List ℕ → Key) (s after : Standing) (x : List ℕ) (e : Entry)
+    → AllByRecursion (NoOtherThere key_of s.blocks x) (waiting_in s.table)
     → WaitedBefore s after e → NoOtherThere key_of after.blocks x e
 by_waiting key_of s after x e all was same =
-    all_at (NoOtherThere key_of s.blocks x) e (waiting_in s.table) was.0 all same ∙ ap (λ (block : List ℕ). take e.key.len block) (sym was.1)
+    all_at (NoOtherThere key_of s.blocks x) e (waiting_in s.table) was.0 all same ∙ ap (λ (block : List ℕ). take e.key.len block)
+    (sym was.1)
 
 -- a standing whose waiting homes come from before
 pub clash_comes : (key_of : List ℕ → Key) (s after : Standing) (others : List (List ℕ)) (x : List ℕ) → WaitingComes s after
-    → AllByRecursion (λ (p : Pointer). key_of x ≡ p.key → x ≡ p.content) after.pool.pointers → HasNoOther key_of s others x → HasNoOther key_of after others x
+    → AllByRecursion (λ (p : Pointer). key_of x ≡ p.key → x ≡ p.content) after.pool.pointers → HasNoOther key_of s others x
+    → HasNoOther key_of after others x
 clash_comes key_of s after others x comes pointers none = record {
   writes = none.writes;
   pointers = pointers;
   waiting =
       all_from (λ (e : Entry). WaitedBefore s after e ⊎ WaitsByPointer s after e) (NoOtherThere key_of after.blocks x)
-      (λ e come. ⊎_elim (λ was. by_waiting key_of s after x e none.waiting was) (λ waits. by_pointer key_of s after x e none.pointers waits) come)
+      (λ e come. ⊎_elim (λ was. by_waiting key_of s after x e none.waiting was)
+      (λ waits. by_pointer key_of s after x e none.pointers waits) come)
       (waiting_in after.table) comes;
 }
 
 -- a pointer that a prune takes keeps its key and its bytes
-loosened_if : (key_of : List ℕ → Key) (x : List ℕ) (b : Bool) (p : Pointer) → NoOtherIn key_of x p → NoOtherIn key_of x (cond b (record p { mark = loose }) p)
+loosened_if : (key_of : List ℕ → Key) (x : List ℕ) (b : Bool) (p : Pointer) → NoOtherIn key_of x p
+    → NoOtherIn key_of x (cond b (record p { mark = loose }) p)
 loosened_if key_of x true p none = none
 loosened_if key_of x false p none = none
 
@@ -71,7 +77,8 @@ module _ (keying : Keying) (s : Standing) (told : Told) (pages : List ℕ) where
       → AllByRecursion (NoOtherIn keying.key_of x) (sealed_standing (lanes_in_turn keying) s item told pages).pool.pointers
   pointers_kept (lanes moment tasks) x new all =
       group_makes (NoOtherIn keying.key_of x) keying s moment tasks told
-      (all_from (NoOther keying.key_of x) (MadeFor (NoOtherIn keying.key_of x) keying.key_of) (λ content other task place birth mark. other) (contents_in tasks) new) all
+      (all_from (NoOther keying.key_of x) (MadeFor (NoOtherIn keying.key_of x) keying.key_of)
+      (λ content other task place birth mark. other) (contents_in tasks) new) all
   pointers_kept (prune moment rule) x new all = all_loosened keying.key_of x (pruned s.pool rule moment) s.pool.pointers all
   pointers_kept (quota limit) x new all = all
   pointers_kept (set_mode lane mode) x new all = all
@@ -79,7 +86,8 @@ module _ (keying : Keying) (s : Standing) (told : Told) (pages : List ℕ) where
   -- a sealed group of any kind keeps the premise
   pub group_kept : (item : GroupItem) (others : List (List ℕ)) → AreAmong (group_contents item) others
       → WaitingComes s (sealed_standing (lanes_in_turn keying) s item told pages)
-      → (x : List ℕ) → HasNoOther keying.key_of s others x → HasNoOther keying.key_of (sealed_standing (lanes_in_turn keying) s item told pages) others x
+      → (x : List ℕ) → HasNoOther keying.key_of s others x
+      → HasNoOther keying.key_of (sealed_standing (lanes_in_turn keying) s item told pages) others x
   group_kept item others among comes x none =
       clash_comes keying.key_of s (sealed_standing (lanes_in_turn keying) s item told pages) others x comes
       (pointers_kept item x (among_all (NoOther keying.key_of x) (group_contents item) others among none.writes) none.pointers) none
@@ -90,20 +98,18 @@ module _ (keying : Keying) (s : Standing) (told : Told) (pages : List ℕ) where
       → (x : List ℕ) → HasNoOther keying.key_of s others x
       → HasNoOther keying.key_of (sealed_standing (lanes_in_turn keying) s (lanes moment tasks) told pages) others x
   clash_kept moment tasks others among stays =
-      group_kept (lanes moment tasks) others among (stays_comes s (sealed_standing (lanes_in_turn keying) s (lanes moment tasks) told pages) stays)
+      group_kept (lanes moment tasks) others among
+      (stays_comes s (sealed_standing (lanes_in_turn keying) s (lanes moment tasks) told pages) stays)
 
 -- waiting homes stay where each that is found later was found before, with its bytes, and what is found waits
 pub waiting_stays : (s after : Standing)
     → AllByRecursion (λ (e : Entry). (found after.table e.key ≡ Some e.home) × (e.home.count ≡ 0)) (waiting_in after.table)
-    → ((key : Key) (home : Home) → found after.table key ≡ Some home → home.count ≡ 0 → (found s.table key ≡ Some home) × (after.blocks home.place ≡ s.blocks home.place))
-    → ((key : Key) (home : Home) → found s.table key ≡ Some home → home.count ≡ 0 → IsIn (record { key = key; home = home }) (waiting_in s.table))
+    → ((key : Key) (home : Home) → found after.table key ≡ Some home → home.count ≡ 0
+    → (found s.table key ≡ Some home) × (after.blocks home.place ≡ s.blocks home.place))
+    → ((key : Key) (home : Home) → found s.table key ≡ Some home → home.count ≡ 0
+    → IsIn (record { key = key; home = home }) (waiting_in s.table))
     → WaitingStays s after
 waiting_stays s after waits were waited =
     all_from (λ (e : Entry). (found after.table e.key ≡ Some e.home) × (e.home.count ≡ 0)) (WaitedBefore s after)
     (λ e there. (waited e.key e.home (were e.key e.home there.0 there.1).0 there.1, (were e.key e.home there.0 there.1).1))
     (waiting_in after.table) waits
-
--- what is found without pointers is among those that wait, where all that holds of these holds of it
-pub waited_by : (table : TableState) (key : Key) (home : Home) → ((P : Entry → Type 0) → AllByRecursion P (waiting_in table) → P (record { key = key; home = home }))
-    → IsIn (record { key = key; home = home }) (waiting_in table)
-waited_by table key home from = from (λ e. IsIn e (waiting_in table)) (all_in (waiting_in table))

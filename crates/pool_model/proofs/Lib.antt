@@ -25,3 +25,16 @@ pub mod Turning
 pub mod Writing
 pub mod Going
 pub mod Counts
+pub mod Lists
+pub mod Members
+pub mod Sorted
+pub mod TablePuts
+pub mod Syncing
+pub mod Lookups
+pub mod Finding
+pub mod Logging
+pub mod Synced
+pub mod Waiting
+pub mod Matching
+pub mod Named
+pub mod Keys

@@ -1,62 +1,77 @@
 -- Lists of pointers: what an insertion in order keeps, and what a filter tells of the elements.
-use Rattle.std.proofs.Common.{◌≡◌, ℕ, Bool, true, false, cond, ◌&&◌, ◌==◌, List, [], ◌∷◌, filter, Some, None, inl, inr, refl, sym, ap, subst, ◌∙◌, arith}
-use Rattle.std.specs.List.{AllByRecursion, find}
+use Rattle.std.proofs.Common.{◌≡◌, ℕ, Bool, true, false, cond, ◌&&◌, ◌==◌, List, [], ◌∷◌, filter, inl, inr, refl, sym, ap, subst, ◌∙◌, arith}
+use Rattle.std.specs.List.{AllByRecursion}
 use Rattle.std.proofs.lemmas.Bool.Decides.{nat_tests}
 use Rattle.ddt_entry.specs.declared.key.Key.{Key}
 use Rattle.ddt_entry.specs.Keys.{key_eq}
 use Rattle.ddt_entry.proofs.KeyLaws.{key_eq-symm, key_eq-true}
 use Rattle.pool_model.specs.Pool.{Pointer, Pairwise, IsApart, GoTogether, SharesHome, run_length, is_tracked, is_shared, tracks, comes_before, insert_pointer}
 
--- what holds of each holds of each in another sense
-pub all_from : {X : Type 0} (P Q : X → Type 0) → ((x : X) → P x → Q x) → (xs : List X) → AllByRecursion P xs → AllByRecursion Q xs
-all_from P Q leads [] all = tt
-all_from P Q leads (x ∷ xs) all = (leads x all.0, all_from P Q leads xs all.1)
-
-pub all_from_both : {X : Type 0} (P Q R : X → Type 0) → ((x : X) → P x → Q x → R x) → (xs : List X) → AllByRecursion P xs → AllByRecursion Q xs → AllByRecursion R xs
-all_from_both P Q R leads [] all other = tt
-all_from_both P Q R leads (x ∷ xs) all other = (leads x all.0 other.0, all_from_both P Q R leads xs all.1 other.1)
-
 -- what each pointer has, an inserted one too, each pointer of the longer list has
-pub all_insert : (P : Pointer → Type 0) (p : Pointer) (ps : List Pointer) → P p → AllByRecursion P ps → AllByRecursion P (insert_pointer p ps)
+pub all_insert : (P : Pointer → Type 0) (p : Pointer) (ps : List Pointer) → P p → AllByRecursion P ps
+    → AllByRecursion P (insert_pointer p ps)
 all_insert P p [] here all = (here, tt)
 all_insert P p (q ∷ qs) here all =
-    elim (comes_before p q) as (λ b. AllByRecursion P (cond b (p ∷ q ∷ qs) (q ∷ insert_pointer p qs))) [ true ↦ (here, all) | false ↦ (all.0, all_insert P p qs here all.1) ]
+    elim (comes_before p q) as (λ b. AllByRecursion P (cond b (p ∷ q ∷ qs) (q ∷ insert_pointer p qs))) [
+      | true ↦ (here, all)
+      | false ↦
+          (all.0, all_insert P p qs here all.1)
+    ]
 
-pub pairs_insert : (R : Pointer → Pointer → Type 0) → ((a b : Pointer) → R a b → R b a) → (p : Pointer) (ps : List Pointer) → AllByRecursion (R p) ps → Pairwise R ps → Pairwise R (insert_pointer p ps)
+pub pairs_insert : (R : Pointer → Pointer → Type 0) → ((a b : Pointer) → R a b → R b a) → (p : Pointer) (ps : List Pointer)
+    → AllByRecursion (R p) ps → Pairwise R ps → Pairwise R (insert_pointer p ps)
 pairs_insert R turned p [] with_all pairs = (tt, tt)
 pairs_insert R turned p (q ∷ qs) with_all pairs =
-    elim (comes_before p q) as (λ b. Pairwise R (cond b (p ∷ q ∷ qs) (q ∷ insert_pointer p qs)))
-    [ true ↦ (with_all, pairs) | false ↦ (all_insert (R q) p qs (turned p q with_all.0) pairs.0, pairs_insert R turned p qs with_all.1 pairs.1) ]
+    elim (comes_before p q) as (λ b. Pairwise R (cond b (p ∷ q ∷ qs) (q ∷ insert_pointer p qs))) [
+      | true ↦ (with_all, pairs)
+      | false ↦
+          (all_insert (R q) p qs (turned p q with_all.0) pairs.0, pairs_insert R turned p qs with_all.1 pairs.1)
+    ]
 
 -- a pointer that doesn't pass leaves those that do
-pub filter_insert : (test : Pointer → Bool) (p : Pointer) (ps : List Pointer) → test p ≡ false → filter test (insert_pointer p ps) ≡ filter test ps
+pub filter_insert : (test : Pointer → Bool) (p : Pointer) (ps : List Pointer) → test p ≡ false
+    → filter test (insert_pointer p ps) ≡ filter test ps
 filter_insert test p [] fails = ap (λ b. cond b (p ∷ []) []) fails
 filter_insert test p (q ∷ qs) fails =
-    elim (comes_before p q) as (λ b. filter test (cond b (p ∷ q ∷ qs) (q ∷ insert_pointer p qs)) ≡ filter test (q ∷ qs))
-    [ true ↦ ap (λ b. cond b (p ∷ filter test (q ∷ qs)) (filter test (q ∷ qs))) fails | false ↦ ap (λ l. cond (test q) (q ∷ l) l) (filter_insert test p qs fails) ]
+    elim (comes_before p q) as (λ b. filter test (cond b (p ∷ q ∷ qs) (q ∷ insert_pointer p qs)) ≡ filter test (q ∷ qs)) [
+      | true ↦ ap (λ b. cond b (p ∷ filter test (q ∷ qs)) (filter test (q ∷ qs))) fails
+      | false ↦ ap (λ l. cond (test q) (q ∷ l) l)
+          (filter_insert test p qs fails)
+    ]
 
 -- where nothing of the longer list passes, the pointer doesn't, and nothing of the shorter does
-pub none_insert : (test : Pointer → Bool) (p : Pointer) (ps : List Pointer) → filter test (insert_pointer p ps) ≡ [] → (test p ≡ false) × (filter test ps ≡ [])
-none_insert test p [] none = elim (test p) as (λ b. cond b (p ∷ []) [] ≡ [] → (b ≡ false) × (filter test [] ≡ [])) [ true ↦ λ e. absurd (cc e) | false ↦ λ e. (refl, refl) ] none
+pub none_insert : (test : Pointer → Bool) (p : Pointer) (ps : List Pointer) → filter test (insert_pointer p ps) ≡ []
+    → (test p ≡ false) × (filter test ps ≡ [])
+none_insert test p [] none =
+    elim (test p) as (λ b. cond b (p ∷ []) [] ≡ []
+    → (b ≡ false) × (filter test [] ≡ [])) [ true ↦ λ e. absurd (cc e) | false ↦ λ e. (refl, refl) ] none
 none_insert test p (q ∷ qs) none =
-    elim (comes_before p q) as (λ b. filter test (cond b (p ∷ q ∷ qs) (q ∷ insert_pointer p qs)) ≡ [] → (test p ≡ false) × (filter test (q ∷ qs) ≡ [])) [
-      | true ↦ elim (test p) as (λ b. cond b (p ∷ filter test (q ∷ qs)) (filter test (q ∷ qs)) ≡ [] → (b ≡ false) × (filter test (q ∷ qs) ≡ [])) [ true ↦ λ e. absurd (cc e) | false ↦ λ e. (refl, e) ]
-      | false ↦ elim (test q) as (λ b. cond b (q ∷ filter test (insert_pointer p qs)) (filter test (insert_pointer p qs)) ≡ [] → (test p ≡ false) × (cond b (q ∷ filter test qs) (filter test qs) ≡ [])) [ true ↦ λ e. absurd (cc e) | false ↦ λ e. none_insert test p qs e ]
+    elim (comes_before p q) as (λ b. filter test (cond b (p ∷ q ∷ qs) (q ∷ insert_pointer p qs)) ≡ []
+    → (test p ≡ false) × (filter test (q ∷ qs) ≡ [])) [
+      | true ↦ elim (test p) as (λ b. cond b (p ∷ filter test (q ∷ qs)) (filter test (q ∷ qs)) ≡ []
+          → (b ≡ false) × (filter test (q ∷ qs) ≡ [])) [ true ↦ λ e. absurd (cc e) | false ↦ λ e. (refl, e) ]
+      | false ↦ elim (test q) as (λ b. cond b (q ∷ filter test (insert_pointer p qs)) (filter test (insert_pointer p qs)) ≡ []
+          → (test p ≡ false) × (cond b (q ∷ filter test qs) (filter test qs) ≡ [])) [
+            | true ↦ λ e. absurd
+                (cc e)
+            | false ↦ λ e. none_insert test p qs e
+          ]
     ] none
 
 -- none passes a test where the filter leaves nothing, or nothing is found
 pub all_fail : (test : Pointer → Bool) (ps : List Pointer) → filter test ps ≡ [] → AllByRecursion (λ q. test q ≡ false) ps
 all_fail test [] none = tt
 all_fail test (q ∷ qs) none =
-    elim (test q) as (λ b. cond b (q ∷ filter test qs) (filter test qs) ≡ [] → (b ≡ false) × AllByRecursion (λ r. test r ≡ false) qs) [ true ↦ λ e. absurd (cc e) | false ↦ λ e. (refl, all_fail test qs e) ] none
-
-pub all_unfound : (test : Pointer → Bool) (ps : List Pointer) → find test ps ≡ None → AllByRecursion (λ q. test q ≡ false) ps
-all_unfound test [] none = tt
-all_unfound test (q ∷ qs) none =
-    elim (test q) as (λ b. cond b (Some q) (find test qs) ≡ None → (b ≡ false) × AllByRecursion (λ r. test r ≡ false) qs) [ true ↦ λ e. absurd (cc e) | false ↦ λ e. (refl, all_unfound test qs e) ] none
+    elim (test q) as (λ b. cond b (q ∷ filter test qs) (filter test qs) ≡ []
+    → (b ≡ false) × AllByRecursion (λ r. test r ≡ false) qs) [
+      | true ↦ λ e. absurd (cc e)
+      | false ↦ λ e.
+          (refl, all_fail test qs e)
+    ] none
 
 -- the first that passes has what each has
-pub first_has : (P : Pointer → Type 0) (test : Pointer → Bool) (ps : List Pointer) (q : Pointer) (rest : List Pointer) → filter test ps ≡ q ∷ rest → AllByRecursion P ps → P q × (test q ≡ true)
+pub first_has : (P : Pointer → Type 0) (test : Pointer → Bool) (ps : List Pointer) (q : Pointer) (rest : List Pointer)
+    → filter test ps ≡ q ∷ rest → AllByRecursion P ps → P q × (test q ≡ true)
 first_has P test [] q rest first all = absurd (cc first)
 first_has P test (p ∷ ps) q rest first all =
     elim (test p) as (λ b. (test p ≡ b) → cond b (p ∷ filter test ps) (filter test ps) ≡ q ∷ rest → P q × (test q ≡ true)) [
@@ -75,7 +90,8 @@ shared_turned false true e f same = refl
 shared_turned false false e f same = refl
 
 pub is_shared-symm : (p q : Pointer) → is_shared p q ≡ is_shared q p
-is_shared-symm p q = shared_turned (is_tracked p.mark) (is_tracked q.mark) (key_eq p.key q.key) (key_eq q.key p.key) (key_eq-symm p.key q.key)
+is_shared-symm p q = shared_turned (is_tracked p.mark) (is_tracked q.mark) (key_eq p.key q.key) (key_eq q.key p.key)
+    (key_eq-symm p.key q.key)
 
 at_turned : (a b c d : ℕ) → ((a == b) && (c == d)) ≡ false → ((b == a) && (d == c)) ≡ false
 at_turned a b c d apart = grind (arith, nat_tests, apart)
@@ -87,7 +103,8 @@ pub together_turned : (p q : Pointer) → GoTogether p q → GoTogether q p
 together_turned p q together = record {
   slots = at_turned q.lane p.lane q.slot p.slot together.slots;
   one_home = λ shared. shares_turned p q (together.one_home (is_shared-symm p q ∙ shared));
-  two_blocks = λ unshared. apart_turned p.place (run_length p.key) q.place (run_length q.key) (together.two_blocks (is_shared-symm p q ∙ unshared));
+  two_blocks = λ unshared. apart_turned p.place (run_length p.key) q.place (run_length q.key)
+      (together.two_blocks (is_shared-symm p q ∙ unshared));
 }
 
 both_true : (a b : Bool) → (a && b) ≡ true → (a ≡ true) × (b ≡ true)

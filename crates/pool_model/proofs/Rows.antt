@@ -34,30 +34,44 @@ new_fits false moment = outside refl
 
 home_fits : (home : Home) (same allowed : Bool) (moment : ℕ) → SpotFits (Some home) true (home_row home same allowed moment).spot
 home_fits home same allowed moment =
-    elim (nat_lt 0 home.count) as (λ b. (nat_lt 0 home.count ≡ b) → SpotFits (Some home) true (cond b (cond same (row written.Hit (at_home home (tracked home.since))) (row written.Clash (at_fresh plain))) (cond (not allowed) (row written.Quota (at_fresh plain)) (cond same (row written.New (at_home home (tracked moment))) (row written.New (at_fresh (tracked moment)))))).spot)
+    elim (nat_lt 0 home.count) as (λ b. (nat_lt 0 home.count ≡ b)
+    → SpotFits (Some home) true
+    (cond b (cond same (row written.Hit (at_home home (tracked home.since))) (row written.Clash (at_fresh plain)))
+    (cond (not allowed) (row written.Quota (at_fresh plain))
+    (cond same (row written.New (at_home home (tracked moment))) (row written.New (at_fresh (tracked moment)))))).spot)
     [ true ↦ λ some. counted_fits same | false ↦ λ none. waiting_fits none same allowed ] refl
   where
-    counted_fits : (same : Bool) → SpotFits (Some home) true (cond same (row written.Hit (at_home home (tracked home.since))) (row written.Clash (at_fresh plain))).spot
+    counted_fits : (same : Bool)
+        → SpotFits (Some home) true
+        (cond same (row written.Hit (at_home home (tracked home.since))) (row written.Clash (at_fresh plain))).spot
     counted_fits true = record { used = refl; is = refl; counts = refl; shares = λ _. refl }
     counted_fits false = outside refl
 
-    waiting_fits : nat_lt 0 home.count ≡ false → (same allowed : Bool) → SpotFits (Some home) true (cond (not allowed) (row written.Quota (at_fresh plain)) (cond same (row written.New (at_home home (tracked moment))) (row written.New (at_fresh (tracked moment))))).spot
+    waiting_fits : nat_lt 0 home.count ≡ false → (same allowed : Bool)
+        → SpotFits (Some home) true
+        (cond (not allowed) (row written.Quota (at_fresh plain))
+        (cond same (row written.New (at_home home (tracked moment))) (row written.New (at_fresh (tracked moment))))).spot
     waiting_fits none same false = outside refl
     waiting_fits none true true = record { used = refl; is = refl; counts = refl; shares = λ some. absurd (cc (some, none)) }
     waiting_fits none false true = first refl (ap (λ b. cond b (Some home) None) none) refl
 
-table_fits : (known : Option Known) (allowed : Bool) (moment : ℕ) → SpotFits (option_map (λ known. known.home) known) true (table_row known allowed moment).spot
+table_fits : (known : Option Known) (allowed : Bool) (moment : ℕ)
+    → SpotFits (option_map (λ known. known.home) known) true (table_row known allowed moment).spot
 table_fits None allowed moment = new_fits allowed moment
 table_fits (Some known) allowed moment = home_fits known.home true allowed moment
 
-verify_fits : (key_of : List ℕ → Key) (known : Option Known) (content : List ℕ) (allowed : Bool) (moment : ℕ) → SpotFits (option_map (λ known. known.home) known) true (verify_row key_of known content allowed moment).spot
+verify_fits : (key_of : List ℕ → Key) (known : Option Known) (content : List ℕ) (allowed : Bool) (moment : ℕ)
+    → SpotFits (option_map (λ known. known.home) known) true (verify_row key_of known content allowed moment).spot
 verify_fits key_of None content allowed moment = new_fits allowed moment
 verify_fits key_of (Some known) content allowed moment =
-    elim (key_eq (key_of known.block) (key_of content)) as (λ b. SpotFits (Some known.home) true (cond b (home_row known.home (bytes_eq known.block content) allowed moment) (row (written.Damaged known.home.place) nowhere)).spot)
+    elim (key_eq (key_of known.block) (key_of content)) as (λ b. SpotFits (Some known.home) true
+    (cond b (home_row known.home (bytes_eq known.block content) allowed moment)
+    (row (written.Damaged known.home.place) nowhere)).spot)
     [ true ↦ home_fits known.home (bytes_eq known.block content) allowed moment | false ↦ tt ]
 
 -- the spot of a write suits the home that the course knows
-pub row_fits : (mode : Mode) (opening : Opening) (known : Option Known) (content : List ℕ) (failed allowed : Bool) → SpotFits (option_map (λ known. known.home) known) (uses_table mode) (mode_row mode opening known content failed allowed).spot
+pub row_fits : (mode : Mode) (opening : Opening) (known : Option Known) (content : List ℕ) (failed allowed : Bool)
+    → SpotFits (option_map (λ known. known.home) known) (uses_table mode) (mode_row mode opening known content failed allowed).spot
 row_fits Off opening known content failed allowed = outside refl
 row_fits On opening known content true allowed = tt
 row_fits On opening known content false allowed = table_fits known allowed opening.moment

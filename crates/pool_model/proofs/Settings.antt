@@ -1,5 +1,5 @@
 -- What a run leaves of the settings, and of the last group's number.
-use Rattle.std.proofs.Common.{◌≡◌, ◌≤◌, ◌+◌, ℕ, Bool, true, false, cond, List, [], ◌∷◌, Option, Some, None, refl, sym, ap, subst, ◌∙◌, arith, fold}
+use Rattle.std.proofs.Common.{◌≡◌, ◌≤◌, ◌+◌, ℕ, Bool, true, false, cond, List, [], ◌∷◌, Option, Some, None, refl, ap, subst, ◌∙◌, arith, fold}
 use Rattle.std.specs.Prelude.{⊤}
 use Rattle.std.specs.List.{AllByRecursion}
 use Rattle.ddt_entry.specs.declared.key.Key.{Key}
@@ -17,28 +17,35 @@ modes_named : (named : Bool) (key : Key) (course : Course) → (naming named key
 modes_named true key course = refl
 modes_named false key course = refl
 
-modes_placed : (opening : Opening) (course : Course) (task : Task) (content : List ℕ) (spot : Spot) → (placed opening course task content spot).pool.modes ≡ course.pool.modes
+modes_placed : (opening : Opening) (course : Course) (task : Task) (content : List ℕ) (spot : Spot)
+    → (placed opening course task content spot).pool.modes ≡ course.pool.modes
 modes_placed opening course task content nowhere = refl
 modes_placed opening course task content (at_home home mark) = refl
 modes_placed opening course task content (at_fresh mark) = refl
 
-modes_written : (opening : Opening) (course : Course) (turn : Turn) (content : List ℕ) → (after_write opening course turn content).pool.modes ≡ course.pool.modes
+modes_written : (opening : Opening) (course : Course) (turn : Turn) (content : List ℕ)
+    → (after_write opening course turn content).pool.modes ≡ course.pool.modes
 modes_written opening course turn content =
     ap (λ (p : Pool). p.modes)
     (modes_named (uses_table (mode_of course.pool turn.task.lane)) (opening.key_of content)
-    (replied (to_write (write_row opening course turn content).answer) (placed opening course turn.task content (write_row opening course turn content).spot)))
+    (replied (to_write (write_row opening course turn content).answer)
+    (placed opening course turn.task content (write_row opening course turn content).spot)))
     ∙ modes_placed opening course turn.task content (write_row opening course turn content).spot
 
-modes_either : (failed : Bool) (one other : Course) (modes : List Mode) → one.pool.modes ≡ modes → other.pool.modes ≡ modes → (cond failed one other).pool.modes ≡ modes
+modes_either : (failed : Bool) (one other : Course) (modes : List Mode) → one.pool.modes ≡ modes → other.pool.modes ≡ modes
+    → (cond failed one other).pool.modes ≡ modes
 modes_either true one other modes e f = e
 modes_either false one other modes e f = f
 
-modes_freed : (mark : Mark) (course : Course) (turn : Turn) (key : Key) → (free_by_mark mark course turn key).pool.modes ≡ course.pool.modes
+modes_freed : (mark : Mark) (course : Course) (turn : Turn) (key : Key)
+    → (free_by_mark mark course turn key).pool.modes ≡ course.pool.modes
 modes_freed plain course turn key = refl
 modes_freed (tracked since) course turn key =
-    modes_either (is_fault turn.reply) (replied (to_free freed.Fault) course) (replied (to_free freed.Counted) (released course turn.task)) course.pool.modes refl refl
+    modes_either (is_fault turn.reply) (replied (to_free freed.Fault) course)
+    (replied (to_free freed.Counted) (released course turn.task)) course.pool.modes refl refl
 modes_freed loose course turn key =
-    modes_either (is_fault turn.reply) (replied (to_free freed.Fault) course) (replied (to_free freed.Loose) (released course turn.task)) course.pool.modes refl refl
+    modes_either (is_fault turn.reply) (replied (to_free freed.Fault) course)
+    (replied (to_free freed.Loose) (released course turn.task)) course.pool.modes refl refl
 
 modes_after_free : (o : Option Pointer) (course : Course) (turn : Turn) → (after_free o course turn).pool.modes ≡ course.pool.modes
 modes_after_free None course turn = refl
@@ -52,7 +59,8 @@ modes_after opening course turn = by_act turn.task.act
     by_act read = refl
     by_act free = modes_after_free (held course.pool turn.task.lane turn.task.slot) course turn
 
-modes_course : (opening : Opening) (course : Course) (turns : List Turn) → (fold (after opening) course turns).pool.modes ≡ course.pool.modes
+modes_course : (opening : Opening) (course : Course) (turns : List Turn)
+    → (fold (after opening) course turns).pool.modes ≡ course.pool.modes
 modes_course opening course [] = refl
 modes_course opening course (turn ∷ turns) = modes_course opening (after opening course turn) turns ∙ modes_after opening course turn
 
@@ -79,7 +87,8 @@ module _ (rules : Rules) (s : Standing) (told : Told) (pages : List ℕ) where
 
   -- and changes no mode unless it is one that sets it
   pub sealed_modes : (item : GroupItem) → KeepsModes item → (sealed_standing rules s item told pages).pool.modes ≡ s.pool.modes
-  sealed_modes (lanes moment tasks) keeps = modes_course (opening_of rules.keying.key_of s moment) (opened s.pool (fresh_of told.lanes)) (rules.order tasks told)
+  sealed_modes (lanes moment tasks) keeps =
+      modes_course (opening_of rules.keying.key_of s moment) (opened s.pool (fresh_of told.lanes)) (rules.order tasks told)
   sealed_modes (prune moment rule) keeps = refl
   sealed_modes (quota limit) keeps = refl
   sealed_modes (set_mode lane mode) keeps = absurd keeps
@@ -91,7 +100,8 @@ module _ (room : Room) (rules : Rules) where
   numbers_rise s (step ∷ steps) run =
       let here : s.pool.group ≤ (stands_after step).pool.group =
       run_step room rules s step run.0 run.1 (λ (t : Standing). s.pool.group ≤ t.pool.group) (omega arith)
-      (λ item told is sealed. omega (arith, ap (λ (t : Standing). t.pool.group) sealed ∙ sealed_number rules s told step.after.pages item)) in
+      (λ item told is sealed. omega
+      (arith, ap (λ (t : Standing). t.pool.group) sealed ∙ sealed_number rules s told step.after.pages item)) in
       omega (arith, here, numbers_rise (stands_after step) steps run.2)
 
   -- and the modes stay, where no item sets one
@@ -101,4 +111,5 @@ module _ (room : Room) (rules : Rules) where
   modes_stay s (step ∷ steps) run keep =
       modes_stay (stands_after step) steps run.2 keep.1
       ∙ run_step room rules s step run.0 run.1 (λ (t : Standing). t.pool.modes ≡ s.pool.modes) refl
-      (λ item told is sealed. ap (λ (t : Standing). t.pool.modes) sealed ∙ sealed_modes rules s told step.after.pages item (subst SetsNoMode is keep.0))
+      (λ item told is sealed. ap (λ (t : Standing). t.pool.modes) sealed ∙ sealed_modes rules s told step.after.pages item
+      (subst SetsNoMode is keep.0))

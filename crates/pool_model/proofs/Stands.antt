@@ -25,23 +25,27 @@ module _ (stands : Standing → Type 0) where
   first_left [] ys first = absurd first
   first_left (x ∷ xs) ys first = first
 
-  pub at_left : (failed : Bool) (group : ℕ) (xs ys : List Standing) → StandsAt stands failed group xs → StandsAt stands failed group (xs ++ ys)
+  pub at_left : (failed : Bool) (group : ℕ) (xs ys : List Standing) → StandsAt stands failed group xs
+      → StandsAt stands failed group (xs ++ ys)
   at_left failed group [] ys at = absurd at
   at_left failed group (x ∷ xs) ys at =
       ⊎_elim
       (λ here. inl (here.0, ⊎_elim (λ now. inl now) (λ next. inr (next.0, first_left xs ys next.1)) here.1))
       (λ later. inr (at_left failed group xs ys later)) at
 
-  pub at_right : (failed : Bool) (group : ℕ) (xs ys : List Standing) → StandsAt stands failed group ys → StandsAt stands failed group (xs ++ ys)
+  pub at_right : (failed : Bool) (group : ℕ) (xs ys : List Standing) → StandsAt stands failed group ys
+      → StandsAt stands failed group (xs ++ ys)
   at_right failed group [] ys at = at
   at_right failed group (x ∷ xs) ys at = inr (at_right failed group xs ys at)
 
   -- the last of them is the one of this group, and stands
-  pub at_last : (failed : Bool) (group : ℕ) (xs : List Standing) (s : Standing) → s.pool.group ≡ group → stands s → StandsAt stands failed group (xs ++ s ∷ [])
+  pub at_last : (failed : Bool) (group : ℕ) (xs : List Standing) (s : Standing) → s.pool.group ≡ group → stands s
+      → StandsAt stands failed group (xs ++ s ∷ [])
   at_last failed group xs s number here = at_right failed group xs (s ∷ []) (inl (number, inl here))
 
   -- the last but one is the one of this group, and where a write failed the last stands
-  pub at_next : (group : ℕ) (xs : List Standing) (a b : Standing) → a.pool.group ≡ group → stands b → StandsAt stands true group (xs ++ a ∷ b ∷ [])
+  pub at_next : (group : ℕ) (xs : List Standing) (a b : Standing) → a.pool.group ≡ group → stands b
+      → StandsAt stands true group (xs ++ a ∷ b ∷ [])
   at_next group xs a b number next = at_right true group xs (a ∷ b ∷ []) (inl (number, inr (refl, next)))
 
   -- the one of a group that stands is one of them

@@ -16,13 +16,18 @@ use Rattle.pool_model.proofs.Courses.{IsTouching, IsWriting, kept_step, given_st
 
 -- the home of a key after the group's changes is the one that is settled
 pub after_settled : (opening : Opening) (course : Course) → IsTouching opening course → ChangesByKey opening course
-    → (key : Key) → home_after opening course (found opening.table key) key ≡ settled opening.number (found opening.table key) (home_of opening course key)
+    → (key : Key) → home_after opening course (found opening.table key) key ≡ settled opening.number (found opening.table key)
+    (home_of opening course key)
 after_settled opening course touching changes key = by_touch (is_touched key course) refl
   where
-    by_touch : (b : Bool) → is_touched key course ≡ b → home_after opening course (found opening.table key) key ≡ settled opening.number (found opening.table key) (home_of opening course key)
+    by_touch : (b : Bool) → is_touched key course ≡ b
+        → home_after opening course (found opening.table key) key ≡ settled opening.number (found opening.table key)
+        (home_of opening course key)
     by_touch true touched =
         ap (found_over (found opening.table key)) (changes.touched key touched)
-        ∙ ap (λ (now : Option Home). found_over (found opening.table key) (change_from key (found opening.table key) (settled opening.number (found opening.table key) now))) (home_of-known opening course key)
+        ∙ ap (λ (now : Option Home). found_over (found opening.table key)
+        (change_from key (found opening.table key) (settled opening.number (found opening.table key) now)))
+        (home_of-known opening course key)
         ∙ over_settled opening.number key (found opening.table key) (home_of opening course key)
     by_touch false untouched =
         ap (found_over (found opening.table key)) (changes.untouched key untouched)
@@ -31,12 +36,15 @@ after_settled opening course touching changes key = by_touch (is_touched key cou
 
 -- a key whose home is gone had none in the table
 pub gone_of : (opening : Opening) (course : Course) (key : Key) → home_of opening course key ≡ None → found opening.table key ≡ None
-gone_of opening course key none = left_by-none (found opening.table key) _ (home_now-none (left_of opening course key) (filter (tracks key) course.pool.pointers) none)
+gone_of opening course key none =
+    left_by-none (found opening.table key) _ (home_now-none (left_of opening course key) (filter (tracks key) course.pool.pointers) none)
 
 -- what is counted of the home is what the pointers say
 pub after_counted : (sectors : ℕ) (unnamed : (place length : ℕ) → Type 0) (opening : Opening) (course : Course)
-    → IsKept sectors opening.number unnamed course.given course.pool.pointers (left_of opening course) → IsTouching opening course → ChangesByKey opening course
-    → (key : Key) → counted (home_after opening course (found opening.table key) key) ≡ home_of_pointers (filter (tracks key) course.pool.pointers)
+    → IsKept sectors opening.number unnamed course.given course.pool.pointers (left_of opening course) → IsTouching opening course
+    → ChangesByKey opening course
+    → (key : Key) → counted (home_after opening course (found opening.table key) key) ≡ home_of_pointers
+    (filter (tracks key) course.pool.pointers)
 after_counted sectors unnamed opening course kept touching changes key =
     ap counted (after_settled opening course touching changes key)
     ∙ counted_settled opening.number (found opening.table key) (home_of opening course key) (gone_of opening course key)
@@ -48,37 +56,46 @@ pub record IsWritten (sectors : ℕ) (unnamed : (place length : ℕ) → Type 0)
   pub touching : IsTouching opening course
   pub writing : IsWriting opening course
 
-module _ (sectors : ℕ) (unnamed : (place length : ℕ) → Type 0) (inside : (place length : ℕ) → unnamed place length → (32 ≤ place) × (place + length ≤ sectors)) (opening : Opening) where
+module _ (sectors : ℕ) (unnamed : (place length : ℕ) → Type 0)
+    (inside : (place length : ℕ) → unnamed place length → (32 ≤ place) × (place + length ≤ sectors)) (opening : Opening) where
   -- runs that are fresh at the end were fresh at each turn
-  fresh_before : (turns : List Turn) (course : Course) → AllByRecursion (λ turn. IsWrite turn.task.act) turns → AreFreshByKey unnamed (fold (after opening) course turns).given → AreFreshByKey unnamed course.given
+  fresh_before : (turns : List Turn) (course : Course) → AllByRecursion (λ turn. IsWrite turn.task.act) turns
+      → AreFreshByKey unnamed (fold (after opening) course turns).given → AreFreshByKey unnamed course.given
   fresh_before [] course writes fresh = fresh
   fresh_before (turn ∷ turns) course writes fresh =
-      given_step sectors unnamed inside opening course (after opening course turn) (written_step opening course turn writes.0) (fresh_before turns (after opening course turn) writes.1 fresh)
+      given_step sectors unnamed inside opening course (after opening course turn) (written_step opening course turn writes.0)
+      (fresh_before turns (after opening course turn) writes.1 fresh)
 
-  pub written_on : (turns : List Turn) (course : Course) → AllByRecursion (λ turn. IsWrite turn.task.act) turns → AreFreshByKey unnamed (fold (after opening) course turns).given → IsWritten sectors unnamed opening course
+  pub written_on : (turns : List Turn) (course : Course) → AllByRecursion (λ turn. IsWrite turn.task.act) turns
+      → AreFreshByKey unnamed (fold (after opening) course turns).given → IsWritten sectors unnamed opening course
       → IsWritten sectors unnamed opening (fold (after opening) course turns)
   written_on [] course writes fresh was = was
   written_on (turn ∷ turns) course writes fresh was =
       let step = written_step opening course turn writes.0 in
       written_on turns (after opening course turn) writes.1 fresh (record {
-        kept = kept_step sectors unnamed inside opening course (after opening course turn) step (fresh_before turns (after opening course turn) writes.1 fresh) was.kept;
+        kept = kept_step sectors unnamed inside opening course (after opening course turn) step
+            (fresh_before turns (after opening course turn) writes.1 fresh) was.kept;
         touching = touching_step opening course (after opening course turn) step was.touching;
         writing = writing_step opening course (after opening course turn) step was.writing;
       })
 
 -- from the opening to the end
-pub written_all : (sectors : ℕ) (opening : Opening) (pool : Pool) (fresh : List (List ℕ)) (turns : List Turn) → opening.number ≡ pool.group + 1 → IsWellFormed sectors pool → MatchesByKey sectors pool (found opening.table)
-    → AreFreshByKey (IsUnnamedByKey sectors pool (found opening.table)) (course_of opening pool fresh turns).given → AllByRecursion (λ turn. IsWrite turn.task.act) turns
+pub written_all : (sectors : ℕ) (opening : Opening) (pool : Pool) (fresh : List (List ℕ)) (turns : List Turn)
+    → opening.number ≡ pool.group + 1 → IsWellFormed sectors pool → MatchesByKey sectors pool (found opening.table)
+    → AreFreshByKey (IsUnnamedByKey sectors pool (found opening.table)) (course_of opening pool fresh turns).given
+    → AllByRecursion (λ turn. IsWrite turn.task.act) turns
     → IsWritten sectors (IsUnnamedByKey sectors pool (found opening.table)) opening (course_of opening pool fresh turns)
 written_all sectors opening pool fresh turns number formed matched given writes =
-    written_on sectors (IsUnnamedByKey sectors pool (found opening.table)) (λ place length is. (is.start, is.end)) opening turns (opened pool fresh) writes given (record {
+    written_on sectors (IsUnnamedByKey sectors pool (found opening.table)) (λ place length is. (is.start, is.end)) opening turns
+    (opened pool fresh) writes given (record {
       kept = kept_opened sectors opening.number pool (found opening.table) (omega (arith, number)) formed matched;
       touching = λ key none. matched_home (found opening.table key) (filter (tracks key) pool.pointers) (matched.homes key);
       writing = λ key none. refl;
     })
 
 -- a home that isn't counted at the end is the table's, of a key without counted pointers
-still_waits : (number : ℕ) (before left : Option Home) (ps : List Pointer) (home : Home) → (home_now left ps ≡ None → before ≡ None) → (ps ≡ [] → left ≡ before) → settled number before (home_now left ps) ≡ Some home → home.count ≡ 0
+still_waits : (number : ℕ) (before left : Option Home) (ps : List Pointer) (home : Home) → (home_now left ps ≡ None → before ≡ None)
+    → (ps ≡ [] → left ≡ before) → settled number before (home_now left ps) ≡ Some home → home.count ≡ 0
     → (ps ≡ []) × (left ≡ Some home) × (before ≡ Some home)
 still_waits number before left ps home gone writing is zero =
     elim (settled_uncounted number before (home_now left ps) home gone is zero) [
@@ -99,16 +116,19 @@ still_waits number before left ps home gone writing is zero =
     counts : {a b : Home} → Some a ≡ Some b → a.count ≡ b.count
     counts e = ap count_of e
 
-module _ (sectors : ℕ) (unnamed : (place length : ℕ) → Type 0) (opening : Opening) (course : Course) (is : IsWritten sectors unnamed opening course) (changes : ChangesByKey opening course) where
+module _ (sectors : ℕ) (unnamed : (place length : ℕ) → Type 0) (opening : Opening) (course : Course)
+    (is : IsWritten sectors unnamed opening course) (changes : ChangesByKey opening course) where
   -- with writes alone no home begins to wait
   pub written_waits : (key : Key) (home : Home) → home_after opening course (found opening.table key) key ≡ Some home → home.count ≡ 0
       → Waits course.pool.pointers (left_of opening course) key home × (found opening.table key ≡ Some home)
   written_waits key home after_is zero =
-      let waits = still_waits opening.number (found opening.table key) (left_of opening course key) (filter (tracks key) course.pool.pointers) home (gone_of opening course key) (is.writing key)
+      let waits = still_waits opening.number (found opening.table key) (left_of opening course key)
+      (filter (tracks key) course.pool.pointers) home (gone_of opening course key) (is.writing key)
       (sym (after_settled opening course is.touching changes key) ∙ after_is) zero in
       (record { none = waits.0; left_is = waits.1 }, waits.2)
 
 -- the pool that it leaves is well formed
-pub kept_formed : (sectors : ℕ) (unnamed : (place length : ℕ) → Type 0) (opening : Opening) (course : Course) → IsKept sectors opening.number unnamed course.given course.pool.pointers (left_of opening course)
+pub kept_formed : (sectors : ℕ) (unnamed : (place length : ℕ) → Type 0) (opening : Opening) (course : Course)
+    → IsKept sectors opening.number unnamed course.given course.pool.pointers (left_of opening course)
     → IsWellFormed sectors (record course.pool { group = opening.number })
 kept_formed sectors unnamed opening course kept = record { together = kept.pairs; within = kept.within }

@@ -10,11 +10,14 @@ use Rattle.pool_model.specs.Command.{Opening, Course}
 use Rattle.pool_model.specs.Group.{change_of, changes_of}
 use Rattle.pool_model.specs.Plain.{Act, write, read, free}
 
--- each home that is found counts exactly the live pointers, and a waiting home was made by now, and its run lies on the disk behind the ring and is no one else's
+-- each home that is found counts exactly the live pointers, and a waiting home was made by now, and its run lies on the disk behind the
+-- ring and is no one else's
 pub record MatchesByKey (sectors : ℕ) (pool : Pool) (home_at : Key → Option Home) : Type 0 where
   pub homes : (key : Key) → counted (home_at key) ≡ home_of_pointers (tracked_at pool key)
-  pub waiting : (key : Key) (home : Home) → home_at key ≡ Some home → home.count ≡ 0 → AllByRecursion (IsApartFrom (record { key = key; home = home })) pool.pointers
-  pub apart : (key other : Key) (home second : Home) → key_eq key other ≡ false → home_at key ≡ Some home → home.count ≡ 0 → home_at other ≡ Some second → second.count ≡ 0
+  pub waiting : (key : Key) (home : Home) → home_at key ≡ Some home → home.count ≡ 0
+      → AllByRecursion (IsApartFrom (record { key = key; home = home })) pool.pointers
+  pub apart : (key other : Key) (home second : Home) → key_eq key other ≡ false → home_at key ≡ Some home → home.count ≡ 0
+      → home_at other ≡ Some second → second.count ≡ 0
       → IsApart home.place (run_length key) second.place (run_length other)
   pub births : (key : Key) (home : Home) → home_at key ≡ Some home → home.count ≡ 0 → home.birth ≤ pool.group
   pub start : (key : Key) (home : Home) → home_at key ≡ Some home → home.count ≡ 0 → 32 ≤ home.place
@@ -25,7 +28,8 @@ pub record IsUnnamedByKey (sectors : ℕ) (pool : Pool) (home_at : Key → Optio
   pub start : 32 ≤ place
   pub end : place + length ≤ sectors
   pub no_pointer : AllByRecursion (λ p. IsApart place length p.place (run_length p.key)) pool.pointers
-  pub not_waiting : (key : Key) (home : Home) → home_at key ≡ Some home → home.count ≡ 0 → IsApart place length home.place (run_length key)
+  pub not_waiting : (key : Key) (home : Home) → home_at key ≡ Some home → home.count ≡ 0
+      → IsApart place length home.place (run_length key)
 
 -- the runs were unnamed, and no two share a sector
 pub record AreFreshByKey (is_unnamed : (place length : ℕ) → Type 0) (given : List (ℕ × ℕ)) : Type 0 where

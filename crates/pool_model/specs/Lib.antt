@@ -4,6 +4,7 @@ pub mod Crash
 pub mod Command
 pub mod File
 pub mod Group
+pub mod Homes
 pub mod Plain
 pub mod Pool
 pub mod Prune

@@ -32,4 +32,5 @@ pub record WaitsByPointer (before after : Standing) (entry : Entry) : Type 0 whe
 
 -- each home that waits after waited before, over the same bytes, or a pointer from before had its key and its bytes
 abbrev pub WaitingComes : (before after : Standing) → Type 0
-WaitingComes before after = AllByRecursion (λ entry. WaitedBefore before after entry ⊎ WaitsByPointer before after entry) (waiting_in after.table)
+WaitingComes before after =
+    AllByRecursion (λ entry. WaitedBefore before after entry ⊎ WaitsByPointer before after entry) (waiting_in after.table)

@@ -1,7 +1,6 @@
 -- Slots that rise, each in the range of its lane and slot, are no more than there are numbers for them; and no home
 -- counts more pointers than a pool has.
-use Rattle.std.proofs.Common.{◌≡◌, ℕ, zero, suc, ◌+◌, ◌*◌, ◌<◌, ◌≤◌, true, List, [], ◌∷◌, length, All, Option, Some, None, refl, sym, ap}
-use Rattle.std.proofs.Common.{◌∙◌, arith}
+use Rattle.std.proofs.Common.{◌≡◌, ℕ, zero, suc, ◌+◌, ◌*◌, ◌<◌, ◌≤◌, true, List, [], ◌∷◌, length, All, Option, Some, None, refl, sym, ap, ◌∙◌, arith}
 use Rattle.std.specs.Prelude.{if◌then◌else◌}
 use Rattle.std.specs.List.{AllByRecursion}
 use Rattle.std.proofs.lemmas.List.Elements.{All-nil, All-cons}
@@ -18,7 +17,7 @@ use Rattle.table_state.specs.Sound.{IsSound}
 use Rattle.table_state.specs.SlotRecords.{is_slot}
 use Rattle.table_state.specs.declared.slot_record.SlotRecord.{SlotRecord}
 use Rattle.std.proofs.lemmas.List.{length-map}
-use Rattle.table_state.proofs.Lists.{length-filter-le}
+use Rattle.pool_model.proofs.Lists.{length-filter-le}
 
 -- the slots of all lanes in one row
 abbrev number : SlotRecord → ℕ

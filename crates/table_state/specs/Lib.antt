@@ -1,6 +1,7 @@
 pub mod Flat
 pub mod SealForms
 pub mod SlotRecords
+pub mod Slots
 pub mod Pools
 pub mod Tables
 pub mod Sealed

@@ -1,7 +1,8 @@
 -- What an image stands for once a group's gate is open.
 use Rattle.std.proofs.Common.{◌≡◌, ℕ, zero, suc, ◌+◌, ◌^◌, ◌≤◌, Bool, true, false, ◌||◌, ◌==◌, List, [], ◌∷◌, Some, length, map, refl, sym, ap, subst, ◌∙◌, ⊎_elim, arith}
 use Rattle.std.proofs.lemmas.Bool.Decides.{eqb_tells}
-use Rattle.table_state.proofs.Lists.{all_from}
+use Rattle.pool_model.proofs.Lists.{all_from}
+use Rattle.pool_model.proofs.Syncing.{sync_keeps, sync_checkpoint}
 use Rattle.std.specs.Prelude.{slice_index_or}
 use Rattle.std.specs.List.{AllByRecursion, list_any, range_with_len}
 use Rattle.std.proofs.lemmas.Bool.{lt-ltb}
@@ -16,19 +17,19 @@ use Rattle.page_tree.specs.Chains.{AreOpen}
 use Rattle.pool_model.specs.Pool.{Pool, Pointer, Pairwise}
 use Rattle.pool_model.specs.Plain.{Stored}
 use Rattle.pool_model.specs.Space.{is_used, used_sectors}
-use Rattle.pool_model.specs.Table.{TableState, waiting_in}
+use Rattle.pool_model.specs.Table.{TableState, waiting_in, IsTable}
 use Rattle.table_state.specs.Flat.{Flat, StandsFor, IsClear, stands_before, pointer_of, table_in}
 use Rattle.table_state.specs.Pools.{Held, IsHeld, slots_after, pool_after, with_blocks}
 use Rattle.table_state.specs.SealForms.{last_group}
 use Rattle.table_state.specs.SlotRecords.{is_slot, FitsSlot}
 use Rattle.table_state.specs.Sound.{IsSound, HasKeyLengths}
 use Rattle.table_state.specs.Sealed.{ChainPart, places_in, records_in, roots_of, seal_of, flat_of, CanBeKept, AreParts, CanStand, IsSealedImage}
-use Rattle.table_state.specs.Tables.{IsTable, IsTableWithin}
+use Rattle.table_state.specs.Tables.{IsTableWithin}
 use Rattle.table_state.specs.declared.slot_record.SlotRecord.{SlotRecord}
 use Rattle.table_state.proofs.SlotLaws.{is_slot-from}
 use Rattle.table_state.proofs.SlotsAfter.{rising_after, within_after, within_later}
 use Rattle.table_state.proofs.Stands.{sealed_stands, sealed_by, sealed_keeps}
-use Rattle.table_state.proofs.Syncing.{sync_keeps, sync_within, sync_lengths, sync_checkpoint}
+use Rattle.table_state.proofs.Syncing.{sync_within, sync_lengths}
 use Rattle.table_state.proofs.TableBack.{is_table_in}
 use Rattle.table_state.proofs.UsedLaws.{used_same}
 use Rattle.txg_sync.specs.Planning.{Group, IsPlan}

@@ -6,7 +6,7 @@ use Rattle.disk_model.specs.Images.{Image, IsImage, Torn, sector_at}
 use Rattle.disk_model.proofs.Sectors.{IsImage-torn, Torn-set, sector_at-set, sector_at-set_other}
 use Rattle.std.proofs.lemmas.Bool.{cases_eq, ne_eqb}
 use Rattle.std.proofs.lemmas.List.{length-set}
-use Rattle.table_state.proofs.Lists.{all_from, all_front, all_back}
+use Rattle.pool_model.proofs.Lists.{all_from, all_front, all_back}
 use Rattle.page_tree.specs.Chains.{SameBut}
 use Rattle.page_tree.proofs.ChainBack.{writes_at_places}
 use Rattle.uber_ring.specs.Seals.{FitsSeal, body_bytes, open_gate, is_open}
