@@ -6,10 +6,10 @@ use Rattle.ddt_entry.specs.Records.{record_bytes}
 use Rattle.page_tree.specs.Chains.{pages_for}
 use Rattle.page_tree.proofs.OpenPlaces.{open_places-fewer}
 use Rattle.pool_model.specs.Plain.{Stored}
-use Rattle.pool_model.specs.Table.{TableState, entries_found}
+use Rattle.pool_model.specs.Table.{TableState, entries_found, IsTable}
 use Rattle.table_state.specs.Sealed.{ChainPart, places_in, records_in, entry_bytes}
 use Rattle.table_state.specs.SlotRecords.{slot_bytes}
-use Rattle.table_state.specs.Tables.{IsTable, unique_in, duplicate_in, table_pages}
+use Rattle.table_state.specs.Tables.{unique_in, duplicate_in, table_pages}
 use Rattle.table_state.specs.declared.slot_record.SlotRecord.{SlotRecord}
 use Rattle.txg_sync.specs.Placing.{pages_of, ArePlaced}
 use Rattle.txg_sync.proofs.PlacedParts.{places_as_pages}
