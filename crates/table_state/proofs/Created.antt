@@ -136,5 +136,6 @@ new_is_sound tag sectors enough few = record {
   slots_rising = tt;
   within = record { zap = tt; flush = tt; active = tt };
   lengths = record { zap = tt; flush = tt; active = tt };
+  sorted = record { zap_rising = tt; zap_counted = tt; flush_rising = tt; active_rising = tt; logs_apart = tt; past = tt };
   counts = λ key home found. absurd (cc found);
 }

@@ -14,7 +14,7 @@ use Rattle.ddt_entry.specs.declared.record.Malformed.{Malformed}
 use Rattle.disk_model.specs.Images.{Image}
 use Rattle.uber_ring.specs.declared.seal.Seal.{Seal}
 use Rattle.pool_model.specs.Pool.{Pool, Pointer, Pairwise}
-use Rattle.pool_model.specs.Table.{TableState, change_at, is_past}
+use Rattle.pool_model.specs.Table.{TableState, IsTable, change_at, is_past}
 use Rattle.table_state.specs.SealForms.{is_formed, has_group, has_size, has_flags, has_modes, has_checkpoint, fewest_sectors, most_sectors, last_group, checkpoint_in}
 use Rattle.table_state.specs.SlotRecords.{is_slot, in_range, slot_at, slot_in, kind_said, kind_at, slot_of as slot_said}
 use Rattle.table_state.specs.Flat.{Flat, IsRead, table_in, pointer_of, last_changes, is_missing, stands_before}
@@ -25,7 +25,7 @@ use Rattle.table_state.specs.declared.slot_record.SlotRecord.{SlotRecord}
 use Rattle.pool_model.proofs.Lists.{all_filter}
 use Rattle.table_state.proofs.SlotCounts.{counts_held}
 use Rattle.pool_model.proofs.Sorted.{all_fold}
-use Rattle.table_state.proofs.TableBack.{table_in_within}
+use Rattle.table_state.proofs.TableBack.{is_table_in, table_in_within}
 use Rattle.pool_model.proofs.TablePuts.{entries_put, changes_put}
 use Rattle.table_state.proofs.UsedLaws.{length-used_sectors, ring_is_used, slot_lengths}
 
@@ -167,6 +167,7 @@ module _ (image : Image) (held : Held) (pool : Pool) (table : TableState) (is : 
         slots_within = slots_ranged;
         within = table_ranged;
         lengths = subst HasKeyLengths (sym table_same) (read_lengths image seal flat is.stands.read);
+        sorted = subst IsTable (sym table_same) (is_table_in seal flat is.stands.whole);
         slots_rising = subst (Pairwise (λ a b. stands_before a b ≡ true)) (sym is.slots_are) is.stands.whole.slots_rising;
         counts = counts_held image held pool table is;
       }

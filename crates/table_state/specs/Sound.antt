@@ -7,7 +7,7 @@ use Rattle.ddt_entry.specs.declared.entry.Change.{Change}
 use Rattle.ddt_entry.specs.declared.key.Key.{Key}
 use Rattle.ddt_entry.specs.declared.entry.Home.{Home}
 use Rattle.pool_model.specs.Pool.{Pairwise}
-use Rattle.pool_model.specs.Table.{TableState, found}
+use Rattle.pool_model.specs.Table.{TableState, IsTable, found}
 use Rattle.table_state.specs.Flat.{stands_before}
 use Rattle.table_state.specs.Pools.{Held}
 use Rattle.table_state.specs.SealForms.{fewest_sectors, most_sectors, last_group}
@@ -34,4 +34,5 @@ pub record IsSound (held : Held) : Type 0 where
   pub slots_rising : Pairwise (λ a b. stands_before a b ≡ true) held.slots
   pub within : IsTableWithin held.sectors held.group held.table
   pub lengths : HasKeyLengths held.table
+  pub sorted : IsTable held.table
   pub counts : (key : Key) (home : Home) → found held.table key ≡ Some home → home.count ≤ length held.slots
