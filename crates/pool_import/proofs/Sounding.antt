@@ -15,7 +15,7 @@ use Rattle.table_state.specs.Flat.{Flat, pointer_of, table_in, pool_in}
 use Rattle.table_state.specs.Pools.{Held}
 use Rattle.table_state.specs.Sound.{IsSound}
 use Rattle.table_state.proofs.SlotCounts.{counts_few}
-use Rattle.table_state.proofs.TableBack.{table_in_within}
+use Rattle.table_state.proofs.TableBack.{is_table_in, table_in_within}
 use Rattle.table_state.proofs.UsedLaws.{length-used_sectors, ring_is_used}
 use Rattle.pool_import.specs.Imports.{IsMade, held_of}
 use Rattle.pool_import.specs.Lengths.{HasLengths}
@@ -61,6 +61,7 @@ sound_of tag disk_sectors seal flat held formed slots lengths made =
       ring = λ sector first. ap (λ used. slice_index_or used sector true) (made.used_are []) ∙ ring_is_used seal.sectors flat.named (pool_in [] seal flat) (table_in seal flat) sector first;
       slots_within = slots;
       slots_rising = made.together.slots_rising;
+      sorted = is_table_in seal flat made.together;
       within = table_in_within seal flat made.together;
       lengths = key_lengths seal flat lengths;
       counts = counts_of;
