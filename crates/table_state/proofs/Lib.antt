@@ -20,3 +20,4 @@ pub mod TableBack
 pub mod TableRoom
 pub mod UnusedOf
 pub mod UsedLaws
+pub mod UsedPlaces

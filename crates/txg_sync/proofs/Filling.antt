@@ -22,7 +22,8 @@ use Rattle.table_state.specs.Flat.{flat_version}
 use Rattle.table_state.specs.Pools.{with_blocks, put_block, block_sector}
 use Rattle.table_state.specs.Sealed.{ChainPart, places_in, HoldsParts}
 use Rattle.txg_sync.specs.Stages.{TakingLeaves, IsTaken}
-use Rattle.txg_sync.specs.Writing.{block_places, group_places, IsStored, IsUnsealed, IsSealed, MayBeSealed}
+use Rattle.table_state.specs.Closing.{block_places}
+use Rattle.txg_sync.specs.Writing.{group_places, IsStored, IsUnsealed, IsSealed, MayBeSealed}
 
 -- slots that show the same show the same highest one
 highest_same : (f g : ℕ → Option Seal) (count : ℕ) → ((slot : ℕ) → slot < count → f slot ≡ g slot) → highest f count ≡ highest g count

@@ -17,7 +17,8 @@ use Rattle.pool_model.specs.Plain.{Stored, stored_of}
 use Rattle.table_state.specs.Flat.{flat_version}
 use Rattle.table_state.specs.Sealed.{ChainPart, places_in, roots_of}
 use Rattle.txg_sync.specs.Stages.{TakingLeaves, IsTaken, Takes, IsFilled, Fills}
-use Rattle.txg_sync.specs.Writing.{block_places, group_places, with_roots, StoresParts, IsUnsealed, MayBeSealed, Seals, FollowsSeal}
+use Rattle.table_state.specs.Closing.{block_places}
+use Rattle.txg_sync.specs.Writing.{group_places, with_roots, StoresParts, IsUnsealed, MayBeSealed, Seals, FollowsSeal}
 use Rattle.txg_sync.proofs.Filling.{AreBehindRing, unsealed_taking, unsealed_stored, unsealed_body, sealed_gate, sealed_opened}
 use Rattle.txg_sync.proofs.Sealing.{holds_some, only_told}
 

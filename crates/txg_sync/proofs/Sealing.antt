@@ -1,5 +1,5 @@
 -- What the stages of the first seal come to, one after another, where the disk tells its contents and where it doesn't.
-use Rattle.std.proofs.Common.{◌≡◌, ℕ, ◌≤◌, Option, Some, None, subst}
+use Rattle.std.proofs.Common.{◌≡◌, ℕ, ◌≤◌, Option, Some, None, subst, inl}
 use Rattle.std.specs.Prelude.{List, slice_set}
 use Rattle.disk_model.specs.Images.{Image, IsImage, TellsImage, Holds}
 use Rattle.disk_model.specs.Crashes.{DiskState, LeavesOnly, NothingPending}
@@ -9,8 +9,9 @@ use Rattle.uber_ring.specs.Ring.{slot_of, gate_sector, body_sector, newest, Writ
 use Rattle.uber_ring.specs.declared.seal.Seal.{Seal}
 use Rattle.table_state.specs.SealForms.{new_seal, fewest_sectors, most_sectors}
 use Rattle.table_state.specs.Flat.{flat_version}
-use Rattle.txg_sync.specs.Stages.{TakingLeaves, IsTaken, Takes, Beginning, Begins, HasNoSeal}
-use Rattle.txg_sync.proofs.Beginnings.{beginning_taking, beginning_body, beginning_gate, begun_opened}
+use Rattle.txg_sync.specs.Creating.{HasNoSeal}
+use Rattle.txg_sync.specs.Stages.{TakingLeaves, IsTaken, Takes, Unbegun, Beginning, Begins}
+use Rattle.txg_sync.proofs.Beginnings.{unbegun_taking, unbegun_body, beginning_gate, begun_opened}
 
 -- told contents after a write
 pub holds_some : (image : Image) (old new : Option Image) (at : ℕ) (bytes : List ℕ) → old ≡ Some image → Holds old new at bytes → new ≡ Some (slice_set image at bytes)
@@ -44,9 +45,13 @@ module _ (tag sectors : ℕ) (image : Image) (old : DiskState) (told : old.seen 
   none : newest flat_version image ≡ None
   none = subst HasNoSeal told no_seal
 
+  -- where the gate wasn't reached
+  pub unbegun_at_each : {mid : DiskState} → LeavesOnly old mid (Unbegun image) → LeavesOnly old mid (Beginning tag image)
+  unbegun_at_each run = weakened (Beginning tag image) run (λ c before. record { shows = inl before.none; outside = before.outside })
+
   -- while the slot is taken
-  pub while_taking : {mid : DiskState} → LeavesOnly old mid (TakingLeaves 1 image) → LeavesOnly old mid (Beginning tag image)
-  while_taking run = weakened (Beginning tag image) run (beginning_taking tag sectors image is none)
+  pub while_taking : {mid : DiskState} → LeavesOnly old mid (TakingLeaves 1 image) → LeavesOnly old mid (Unbegun image)
+  while_taking run = weakened (Unbegun image) run (unbegun_taking tag sectors image is none)
 
   module _ (enough : fewest_sectors ≤ sectors) (few : sectors ≤ most_sectors) (seal : Seal) (fits : FitsSeal seal)
       (same : seal ≡ new_seal tag sectors)
@@ -57,14 +62,14 @@ module _ (tag sectors : ℕ) (image : Image) (old : DiskState) (told : old.seen 
 
     -- while the body is written
     pub while_filling : {later : DiskState} → LeavesOnly mid later (WritingLeaves (slot_of seal.group) mid.may_leave)
-        → LeavesOnly old later (Beginning tag image)
+        → LeavesOnly old later (Unbegun image)
     while_filling filling =
         and_then (while_taking taking)
-        (weakened (Beginning tag image) filling each)
+        (weakened (Unbegun image) filling each)
       where
-        each : (c : Image) → WritingLeaves (slot_of seal.group) mid.may_leave c → Beginning tag image c
+        each : (c : Image) → WritingLeaves (slot_of seal.group) mid.may_leave c → Unbegun image c
         each c from =
-            beginning_body tag sectors image is none taken.0 taken.2 c
+            unbegun_body tag sectors image is none taken.0 taken.2 c
             (subst (λ (d : Image). BodyTorn 1 d c) (only_told taken.0 mid.seen mid.may_leave taken.1 still from.0 from.1)
             (subst (λ (s : Seal). BodyTorn (slot_of s.group) from.0 c) same from.2))
 
@@ -73,7 +78,7 @@ module _ (tag sectors : ℕ) (image : Image) (old : DiskState) (told : old.seen 
         → Holds mid.seen later.seen (body_sector (slot_of seal.group)) (body_bytes seal) → NothingPending later.seen later.may_leave
         → LeavesOnly later new (OpeningLeaves 1 later.may_leave) → LeavesOnly old new (Beginning tag image)
     while_opening {later} filling filled still_later opening =
-        and_then (while_filling filling)
+        and_then (unbegun_at_each (while_filling filling))
         (weakened (Beginning tag image) opening each)
       where
         seen_later : later.seen ≡ Some (slice_set taken.0 (body_sector 1) (body_bytes (new_seal tag sectors)))

@@ -10,7 +10,8 @@ use Rattle.page_tree.specs.Chains.{SameBut, MayTouchAll, ChainLeaves}
 use Rattle.pool_model.specs.Plain.{Stored}
 use Rattle.table_state.specs.Pools.{with_blocks}
 use Rattle.table_state.specs.Sealed.{ChainPart, places_in}
-use Rattle.txg_sync.specs.Writing.{block_places, group_places, Stores, HoldsSince, StoresParts}
+use Rattle.table_state.specs.Closing.{block_places}
+use Rattle.txg_sync.specs.Writing.{group_places, Stores, HoldsSince, StoresParts}
 
 -- what follows from what holds at Ok
 pub on_ok : {T E : Type 0} (result : Result T E) (P Q : Type 0) → (P → Q) → OnOk result P → OnOk result Q

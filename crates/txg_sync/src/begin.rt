@@ -2,8 +2,9 @@ ghost use Rattle.std.specs.Prelude.{◌≡◌, ◌≤◌, Some, OnOk, IsErrOf};
 ghost use Rattle.disk_model.specs.Images.{Image, Stays};
 ghost use Rattle.disk_model.specs.Crashes.{LeavesOnly, NothingPending};
 ghost use Rattle.txg_sync.specs.SyncFaults.{SealAccounts};
-ghost use Rattle.txg_sync.specs.Stages.{Begins, Beginning, HasNoSeal};
-ghost use Rattle.txg_sync.specs.declared.fault.SealFault.TheVariants.{ReadFault};
+ghost use Rattle.txg_sync.specs.Creating.{HasNoSeal};
+ghost use Rattle.txg_sync.specs.Stages.{Begins, Beginning, Unbegun};
+ghost use Rattle.txg_sync.specs.declared.fault.SealFault.TheVariants.{ReadFault, WriteFault};
 
 use crate::fault::SealFault;
 use crate::fill::fill_slot;
@@ -13,7 +14,8 @@ use table_state::new_seal;
 use uber_ring::{open_slot, seal_fits};
 
 /// Seals the empty pool of group 1, for a key function with this tag, on a disk on which no seal counts. The
-/// pool has the disk's sectors, 2,048 to 1,000,000. Takes no memory.
+/// pool has the disk's sectors, 2,048 to 1,000,000. `WriteFault` comes before the gate is written, and `GateFault`
+/// from then on. Takes no memory.
 pub fn seal_new_pool<D: Disk>(disk: &mut D, tag: u8) -> Result<(), SealFault>
     requires enough { 2048 ≤ (D.state disk.old).sectors }
     requires few { (D.state disk.old).sectors ≤ 1000000 }
@@ -22,6 +24,9 @@ pub fn seal_new_pool<D: Disk>(disk: &mut D, tag: u8) -> Result<(), SealFault>
     ensures durable { OnOk result (NothingPending (D.state disk.new).seen (D.state disk.new).may_leave) }
     ensures any_moment { (image : Image) → (D.state disk.old).seen ≡ Some image → NothingPending (Some image) (D.state disk.old).may_leave
         → LeavesOnly (D.state disk.old) (D.state disk.new) (Beginning tag image) }
+    ensures before_the_gate { (image : Image) → (D.state disk.old).seen ≡ Some image
+        → NothingPending (Some image) (D.state disk.old).may_leave → IsErrOf result WriteFault
+        → LeavesOnly (D.state disk.old) (D.state disk.new) (Unbegun image) }
     ensures unread { IsErrOf result ReadFault → Stays (D.state disk.old).seen (D.state disk.new).seen }
     ensures unread_crash { IsErrOf result ReadFault → (c : Image) → (D.state disk.new).may_leave c → (D.state disk.old).may_leave c }
     ensures accounts { SealAccounts (D.state disk.old) (D.state disk.new) result }
@@ -34,7 +39,7 @@ pub fn seal_new_pool<D: Disk>(disk: &mut D, tag: u8) -> Result<(), SealFault>
         return Err(SealFault::WriteFault);
     };
     let Ok(()) = open_slot(disk, 1) else {
-        return Err(SealFault::WriteFault);
+        return Err(SealFault::GateFault);
     };
     Ok(())
 }

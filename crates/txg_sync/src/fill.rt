@@ -1,4 +1,4 @@
-ghost use Rattle.std.specs.Prelude.{◌≡◌, ◌≤◌, OnOk};
+ghost use Rattle.std.specs.Prelude.{◌≤◌, OnOk};
 ghost use Rattle.disk_model.specs.Images.{Holds};
 ghost use Rattle.disk_model.specs.Crashes.{LeavesOnly, NothingPending};
 ghost use Rattle.disk_model.specs.Accounts.{Accounts};

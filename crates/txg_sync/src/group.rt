@@ -1,4 +1,4 @@
-ghost use Rattle.std.specs.Prelude.{◌≡◌, ◌≤◌, ◌<◌, [], ℕ, Some, length, map, All, OnOk, IsErrOf};
+ghost use Rattle.std.specs.Prelude.{◌≡◌, ◌≤◌, ◌<◌, [], Some, length, map, All, OnOk, IsErrOf};
 ghost use Rattle.disk_model.specs.Images.{Image, Stays};
 ghost use Rattle.disk_model.specs.Crashes.{LeavesOnly, NothingPending};
 ghost use Rattle.page_tree.specs.Chains.{pages_for, AreOpen};
@@ -8,7 +8,7 @@ ghost use Rattle.table_state.specs.Sealed.{places_in};
 ghost use Rattle.txg_sync.specs.SyncFaults.{SealAccounts};
 ghost use Rattle.txg_sync.specs.Stages.{Fills};
 ghost use Rattle.txg_sync.specs.Writing.{with_roots, group_places, FollowsSeal, IsUnsealed, MayBeSealed, Seals};
-ghost use Rattle.txg_sync.specs.declared.fault.SealFault.TheVariants.{ReadFault};
+ghost use Rattle.txg_sync.specs.declared.fault.SealFault.TheVariants.{ReadFault, WriteFault, GateFault};
 
 use crate::fault::SealFault;
 use crate::fill::fill_slot;
@@ -29,7 +29,8 @@ fn with_pointers(seal: &Seal, pointers: [PagePtr; 6]) -> Seal
 
 /// Writes all of a group but its gate, behind the newest sealed group: takes its slot of the ring, writes its
 /// blocks and the pages of its five chains, and then the body of its seal, whose roots are those of the chains.
-/// Up to its end, also where it fails, a crash leaves the seal that counted before. Takes no memory.
+/// Up to its end, also where it fails, a crash leaves the seal that counted before. It never answers `GateFault`.
+/// Takes no memory.
 pub fn fill_group<D: Disk>(
     disk: &mut D,
     seal: &Seal,
@@ -53,6 +54,7 @@ pub fn fill_group<D: Disk>(
         (IsUnsealed (slot_of seal.now.group) (group_places (map stored_of contents.now) parts.now) image) }
     ensures unread { IsErrOf result ReadFault → Stays (D.state disk.old).seen (D.state disk.new).seen }
     ensures unread_crash { IsErrOf result ReadFault → (c : Image) → (D.state disk.new).may_leave c → (D.state disk.old).may_leave c }
+    ensures ungated { IsErrOf result GateFault → ⊥ }
     ensures accounts { SealAccounts (D.state disk.old) (D.state disk.new) result }
 {
     crash_laws(disk);
@@ -73,7 +75,8 @@ pub fn fill_group<D: Disk>(
     Ok(())
 }
 
-/// Seals a group behind the newest one: writes all of it but its gate, and opens the gate. Takes no memory.
+/// Seals a group behind the newest one: writes all of it but its gate, and opens the gate. `WriteFault` comes
+/// before the gate is written, and `GateFault` from then on. Takes no memory.
 pub fn seal_group<D: Disk>(
     disk: &mut D,
     seal: &Seal,
@@ -95,6 +98,10 @@ pub fn seal_group<D: Disk>(
     ensures any_moment { (image : Image) → (D.state disk.old).seen ≡ Some image → NothingPending (Some image) (D.state disk.old).may_leave
         → LeavesOnly (D.state disk.old) (D.state disk.new)
         (MayBeSealed (slot_of seal.now.group) (map stored_of contents.now) parts.now (with_roots seal.now parts.now) image) }
+    ensures before_the_gate { (image : Image) → (D.state disk.old).seen ≡ Some image
+        → NothingPending (Some image) (D.state disk.old).may_leave → IsErrOf result WriteFault
+        → LeavesOnly (D.state disk.old) (D.state disk.new)
+        (IsUnsealed (slot_of seal.now.group) (group_places (map stored_of contents.now) parts.now) image) }
     ensures unread { IsErrOf result ReadFault → Stays (D.state disk.old).seen (D.state disk.new).seen }
     ensures unread_crash { IsErrOf result ReadFault → (c : Image) → (D.state disk.new).may_leave c → (D.state disk.old).may_leave c }
     ensures accounts { SealAccounts (D.state disk.old) (D.state disk.new) result }
@@ -104,7 +111,7 @@ pub fn seal_group<D: Disk>(
     fill_group(disk, seal, contents, parts)?;
     let slot = (seal.group % 16) as u32;
     let Ok(()) = open_slot(disk, slot) else {
-        return Err(SealFault::WriteFault);
+        return Err(SealFault::GateFault);
     };
     Ok(())
 }

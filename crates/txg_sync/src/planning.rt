@@ -9,9 +9,9 @@ ghost use Rattle.table_state.specs.Pools.{slots_after};
 ghost use Rattle.table_state.specs.Sealed.{places_in, records_in, seal_of};
 ghost use Rattle.table_state.specs.Tables.{IsTableWithin};
 ghost use Rattle.table_state.specs.Sound.{IsSound, HasKeyLengths};
-ghost use Rattle.txg_sync.specs.Planning.{group_in, IsMadeOf, IsPlan};
+ghost use Rattle.table_state.specs.Closing.{closed_of, IsInRange, records_after};
+ghost use Rattle.txg_sync.specs.Planning.{IsMadeOf, IsPlan};
 ghost use Rattle.txg_sync.specs.Placing.{ArePlaced, LacksRoom};
-ghost use Rattle.txg_sync.specs.Syncing.{IsInRange, records_after};
 
 use crate::chain_records::records_of;
 use crate::group_seal::seal_of;
@@ -106,8 +106,10 @@ fn chains_of(
 ) -> Result<Option<Vec<ChainPages>>, AllocError>
     requires ring { (sector : ℕ) → sector < 32 → slice_index_or pool.now.used sector true ≡ true }
     requires lengths { HasKeyLengths table.now }
-    ensures placed { IfOk result (λ found. IfSome found (λ parts. ArePlaced pool.now.used (group_in closed.now).contents (records_in slots.now table.now) parts.items)) }
-    ensures room { IfOk result (λ found. IfNone found (LacksRoom pool.now.used (group_in closed.now).contents (records_in slots.now table.now))) }
+    ensures placed { IfOk result (λ found. IfSome found (λ parts.
+        ArePlaced pool.now.used (closed_of closed.now).contents (records_in slots.now table.now) parts.items)) }
+    ensures room { IfOk result (λ found. IfNone found
+        (LacksRoom pool.now.used (closed_of closed.now).contents (records_in slots.now table.now))) }
 {
     let lists = records_of(alloc, slots, table)?;
     place_chains(alloc, &pool.used, closed.contents.as_slice(), lists)
@@ -126,7 +128,7 @@ fn next_of(
     requires last { pool.now.group + 1 ≤ last_group }
     requires slots { AllByRecursion (λ slot. IsKeyLength slot.pointer.key.len) slots.items }
     requires lengths { HasKeyLengths table }
-    ensures { IfOk result (λ next. IsMadeOf pool.now (group_in closed.now) slots.items table pages.items next) }
+    ensures { IfOk result (λ next. IsMadeOf pool.now (closed_of closed.now) slots.items table pages.items next) }
 {
     let used = used_after(
         alloc,
@@ -152,10 +154,12 @@ fn next_of(
 /// than its pages need. The error is want of memory.
 pub fn plan_group(alloc: Global, pool: &Pool, closed: &Closed) -> Result<Option<Plan>, AllocError>
     requires sound { IsSound pool.now }
-    requires range { IsInRange pool.now (group_in closed.now) }
+    requires range { IsInRange pool.now (closed_of closed.now) }
     requires last { pool.now.group + 1 ≤ last_group }
-    ensures planned { IfOk result (λ found. IfSome found (λ plan. IsPlan pool.now (group_in closed.now) plan.next plan.parts.items plan.seal)) }
-    ensures room { IfOk result (λ found. IfNone found (LacksRoom pool.now.used (group_in closed.now).contents (records_after pool.now (group_in closed.now)))) }
+    ensures planned { IfOk result (λ found. IfSome found (λ plan.
+        IsPlan pool.now (closed_of closed.now) plan.next plan.parts.items plan.seal)) }
+    ensures room { IfOk result (λ found. IfNone found
+        (LacksRoom pool.now.used (closed_of closed.now).contents (records_after pool.now (closed_of closed.now)))) }
 {
     let slots = slots_of(alloc, pool, closed)?;
     let table = table_of(alloc, pool, closed)?;

@@ -3,14 +3,14 @@ ghost use Rattle.disk_model.specs.Images.{Image, Stays};
 ghost use Rattle.disk_model.specs.Crashes.{LeavesOnly, NothingPending};
 ghost use Rattle.txg_sync.specs.SyncFaults.{SealAccounts};
 ghost use Rattle.txg_sync.specs.Stages.{TakingLeaves, Takes};
-ghost use Rattle.txg_sync.specs.declared.fault.SealFault.TheVariants.{ReadFault};
+ghost use Rattle.txg_sync.specs.declared.fault.SealFault.TheVariants.{ReadFault, GateFault};
 
 use crate::fault::SealFault;
 use disk_model::{Disk, crash_laws};
 use uber_ring::{close_slot, gate_open};
 
 /// Takes a slot of the ring for a new seal: reads its gate, closes it where it reads open, and makes a
-/// barrier. Takes no memory.
+/// barrier. It never answers `GateFault`, since this gate is closed. Takes no memory.
 pub fn take_slot<D: Disk>(disk: &mut D, slot: u32) -> Result<(), SealFault>
     requires ring { 32 ≤ (D.state disk.old).sectors }
     requires slot { slot < 16 }
@@ -20,6 +20,7 @@ pub fn take_slot<D: Disk>(disk: &mut D, slot: u32) -> Result<(), SealFault>
         → LeavesOnly (D.state disk.old) (D.state disk.new) (TakingLeaves slot image) }
     ensures unread { IsErrOf result ReadFault → Stays (D.state disk.old).seen (D.state disk.new).seen }
     ensures unread_crash { IsErrOf result ReadFault → (c : Image) → (D.state disk.new).may_leave c → (D.state disk.old).may_leave c }
+    ensures ungated { IsErrOf result GateFault → ⊥ }
     ensures accounts { SealAccounts (D.state disk.old) (D.state disk.new) result }
 {
     crash_laws(disk);

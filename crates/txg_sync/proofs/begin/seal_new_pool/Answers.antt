@@ -1,14 +1,28 @@
 -- Each stage leaves no seal that counts, or the new one.
 use Rattle.std.proofs.Common.{◌≤◌, subst, sym}
-use Rattle.txg_sync.proofs.Sealing.{begins_of, while_taking, while_filling, while_opening}
+use Rattle.txg_sync.proofs.Sealing.{begins_of, unbegun_at_each, while_taking, while_filling, while_opening}
 use Rattle.txg_sync.proofs.begin.seal_new_pool.Goals as goal
 
 pub returns-in_err-take_slot-clause-any_moment : goal.returns-in_err-take_slot-clause-any_moment
 returns-in_err-take_slot-clause-any_moment g c image told pending =
+    unbegun_at_each c.args.tag _ image _ told c.sectors.ensures.told c.requires.none
+    (while_taking c.args.tag _ image _ told c.sectors.ensures.told c.requires.none (c.take_slot.ensures.any_moment image told pending))
+
+pub returns-in_err-take_slot-clause-before_the_gate : goal.returns-in_err-take_slot-clause-before_the_gate
+returns-in_err-take_slot-clause-before_the_gate g c image told pending fault =
     while_taking c.args.tag _ image _ told c.sectors.ensures.told c.requires.none (c.take_slot.ensures.any_moment image told pending)
 
 pub returns-in_default-clause-any_moment : goal.returns-in_default-clause-any_moment
 returns-in_default-clause-any_moment g c image told pending =
+    unbegun_at_each c.args.tag _ image _ told c.sectors.ensures.told c.requires.none
+    (while_filling c.args.tag _ image _ told c.sectors.ensures.told c.requires.none
+    (subst (λ n. 2048 ≤ n) (sym c.sectors.ensures.count) c.requires.enough)
+    (subst (λ n. n ≤ 1000000) (sym c.sectors.ensures.count) c.requires.few) _ c.seal_fits.ensures c.new_seal-seal.ensures
+    (c.take_slot.ensures.any_moment image told pending) c.in_ok-take_slot.ensures.taken c.in_ok-take_slot.ensures.durable
+    c.fill_slot.ensures.any_moment)
+
+pub returns-in_default-clause-before_the_gate : goal.returns-in_default-clause-before_the_gate
+returns-in_default-clause-before_the_gate g c image told pending fault =
     while_filling c.args.tag _ image _ told c.sectors.ensures.told c.requires.none
     (subst (λ n. 2048 ≤ n) (sym c.sectors.ensures.count) c.requires.enough)
     (subst (λ n. n ≤ 1000000) (sym c.sectors.ensures.count) c.requires.few) _ c.seal_fits.ensures c.new_seal-seal.ensures

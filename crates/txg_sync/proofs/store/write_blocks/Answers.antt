@@ -5,7 +5,7 @@ use Rattle.table_state.specs.Pools.{block_sector}
 use Rattle.disk_model.proofs.Moments.{goes_on, keeps_on}
 use Rattle.page_tree.specs.Chains.{ChainLeaves}
 use Rattle.pool_model.specs.Plain.{stored_of}
-use Rattle.txg_sync.specs.Writing.{block_places}
+use Rattle.table_state.specs.Closing.{block_places}
 use Rattle.txg_sync.proofs.Storing.{stores_more, block_touched, block_torn, block_leaves}
 use Rattle.txg_sync.proofs.store.write_blocks.Goals as goal
 

@@ -4,7 +4,8 @@ use Rattle.disk_model.specs.Crashes.{LeavesOnly}
 use Rattle.disk_model.specs.Accounts.{Keeps}
 use Rattle.page_tree.specs.Chains.{MayTouchAll, ChainLeaves}
 use Rattle.pool_model.specs.Plain.{stored_of}
-use Rattle.txg_sync.specs.Writing.{block_places, Stores}
+use Rattle.table_state.specs.Closing.{block_places}
+use Rattle.txg_sync.specs.Writing.{Stores}
 use Rattle.txg_sync.proofs.store.write_blocks.Given as goal
 
 abbrev pub invariant-each : goal.invariant-each

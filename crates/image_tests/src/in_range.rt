@@ -7,8 +7,7 @@ ghost use Rattle.table_state.specs.Flat.{IsWithin, IsChangeWithin};
 ghost use Rattle.table_state.specs.Sealed.{ChangesSlotWithin};
 ghost use Rattle.table_state.specs.SlotRecords.{is_slot, FitsSlot};
 ghost use Rattle.table_state.specs.Sound.{HasLength};
-ghost use Rattle.txg_sync.specs.Planning.{group_in};
-ghost use Rattle.txg_sync.specs.Syncing.{IsInRange};
+ghost use Rattle.table_state.specs.Closing.{closed_of, IsInRange};
 
 use ddt_entry::{Change, Entry, MAX_BLOCK_BYTES, key_of};
 use pool_model::{Closed, SlotChange, StoredBlock};
@@ -35,7 +34,7 @@ const LAST_SLOT: u32 = 65_535;
 /// Whether what a group leaves is in its ranges, for the next group of this pool. At the end of the numbers
 /// of groups it isn't.
 pub fn is_in_range(pool: &Pool, closed: &Closed) -> bool
-    ensures { result ≡ true → IsInRange pool.now (group_in closed.now) }
+    ensures { result ≡ true → IsInRange pool.now (closed_of closed.now) }
 {
     let sectors = pool.sectors;
     let Some(group) = pool.sealed.checked_add(1) else {
