@@ -24,8 +24,8 @@ use Rattle.pool_model.proofs.Waiting.{waiting_has}
 use Rattle.pool_model.proofs.Pointers.{first_has, tracks-key}
 use Rattle.pool_model.proofs.Homes.{home_now}
 use Rattle.pool_model.proofs.Putting.{left_of}
+use Rattle.table_state.specs.Holding.{StandsOver}
 use Rattle.pool_model.proofs.Lists.{all_from}
-use Rattle.lane_run.specs.Groups.{StandsOver}
 use Rattle.lane_run.specs.Live.{Live, home_here, sector_or, sector_here, known_by, first_mode, opening_over}
 use Rattle.lane_run.proofs.Places.{find_none, not_used}
 use Rattle.lane_run.proofs.Openings.{table_sorted, waiting_is_used}

@@ -17,8 +17,9 @@ use Rattle.pool_model.specs.Group.{Standing, opening_of, opened, course_of}
 use Rattle.pool_model.specs.Table.{counted_homes}
 use Rattle.table_state.specs.Pools.{Held}
 use Rattle.table_state.specs.Sound.{IsSound}
-use Rattle.txg_sync.specs.Writing.{block_places}
-use Rattle.lane_run.specs.Groups.{StandsOver, IsFirstWrite, WritesBlock}
+use Rattle.table_state.specs.Closing.{block_places}
+use Rattle.table_state.specs.Holding.{StandsOver}
+use Rattle.lane_run.specs.Groups.{IsFirstWrite, WritesBlock}
 use Rattle.lane_run.specs.Going.{IsCourse, turns_from, first_course, HasRun, HasRunOver}
 use Rattle.lane_run.specs.Live.{Live, write_of, put_at, after_row, row_here, IsChosen, IsWritten, WritesAct, CountsFault}
 use Rattle.lane_run.proofs.Places.{IsNew}

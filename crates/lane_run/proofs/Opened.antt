@@ -23,8 +23,8 @@ use Rattle.table_state.proofs.UnusedOf.{unused_free}
 use Rattle.pool_model.proofs.Keys.{keys_are_counted_homes}
 use Rattle.pool_model.proofs.Homes.{matched_home}
 use Rattle.pool_model.proofs.Putting.{home_of-known}
+use Rattle.table_state.specs.Holding.{StandsOver}
 use Rattle.pool_model.proofs.Lists.{all_from_both, all_in, all_at}
-use Rattle.lane_run.specs.Groups.{StandsOver}
 use Rattle.lane_run.specs.Going.{IsCourse, IsPlaced, Stands}
 use Rattle.lane_run.specs.Live.{Live}
 use Rattle.lane_run.proofs.Places.{used_either}
@@ -49,7 +49,7 @@ module _ (image : Image) (held : Held) (s : Standing) (over : StandsOver image h
       by_note : (b : Bool) → slice_index_or held.used p.place true ≡ b → b ≡ true
       by_note true noted = refl
       by_note false noted =
-          let is_free = unused_free image held s.pool s.table over.is_held s.blocks p.place noted in
+          let is_free = unused_free image held s over p.place noted in
           let apart : IsApart p.place 1 p.place (run_length p.key) = all_at (λ (q : Pointer). IsApart p.place 1 q.place (run_length q.key)) p s.pool.pointers here is_free.unnamed.no_pointer in
           absurd (⊎_elim (λ before. omega (arith, before)) (λ behind. omega (arith, behind, one_sector p.key len)) apart)
 

@@ -26,7 +26,7 @@ use Rattle.pool_model.specs.Homes.{HomesMatch}
 use Rattle.pool_model.proofs.Waiting.{waiting_has}
 use Rattle.pool_model.proofs.Matching.{matches_read}
 use Rattle.pool_model.specs.ByKey.{MatchesByKey}
-use Rattle.lane_run.specs.Groups.{StandsOver}
+use Rattle.table_state.specs.Holding.{StandsOver}
 use Rattle.lane_run.proofs.Places.{used_either}
 use Rattle.lane_run.proofs.Stored.{found_has}
 
@@ -105,7 +105,7 @@ module _ (image : Image) (held : Held) (s : Standing) (over : StandsOver image h
       by_note : (b : Bool) → slice_index_or held.used home.place true ≡ b → b ≡ true
       by_note true noted = refl
       by_note false noted =
-          let is_free = unused_free image held s.pool s.table over.is_held s.blocks home.place noted in
+          let is_free = unused_free image held s over home.place noted in
           let apart : IsApart home.place 1 home.place (run_length key) = waiting_has (λ entry. IsApart home.place 1 entry.home.place (run_length entry.key)) s.table key home table_sorted is zero is_free.unnamed.not_waiting in
           absurd (⊎_elim (λ before. omega (arith, before)) (λ behind. omega (arith, behind, waiting_run key home is zero)) apart)
 

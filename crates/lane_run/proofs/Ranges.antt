@@ -17,7 +17,7 @@ use Rattle.pool_model.specs.Plain.{Stored, to_write}
 use Rattle.pool_model.specs.Command.{Spot, nowhere, at_home, at_fresh, Row}
 use Rattle.table_state.specs.Pools.{Held}
 use Rattle.table_state.specs.Sound.{IsSound}
-use Rattle.txg_sync.specs.Writing.{block_places}
+use Rattle.table_state.specs.Closing.{block_places}
 use Rattle.table_state.proofs.UnusedOf.{found_unused}
 use Rattle.lane_run.specs.Live.{Live, or_below, home_here, put_home, put_at, with_first, brought, shared, after_row, IsHomeOf, IsReady}
 use Rattle.lane_run.proofs.Places.{IsNew, all_more}

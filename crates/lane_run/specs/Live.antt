@@ -18,7 +18,7 @@ use Rattle.pool_model.specs.Table.{TableState, found, entry_at}
 use Rattle.pool_model.specs.Command.{Opening, Known, Spot, nowhere, at_home, at_fresh, Row, row, mode_row, allows, is_fault, uses_table, pointer_at}
 use Rattle.pool_model.specs.Group.{settled, change_from}
 use Rattle.table_state.specs.Pools.{Held, is_slot_at, block_sector}
-use Rattle.txg_sync.specs.Planning.{Group}
+use Rattle.table_state.specs.Closing.{PlainClosed}
 use Rattle.table_state.specs.Slots.{change_to}
 
 -- what a group has come to: the changes of the slots, the blocks that it stored, the homes that it made or changed, the keys that it named, how many keys are counted, and the replies
@@ -180,5 +180,5 @@ abbrev pub changes_here : Held → Live → List Change
 changes_here held live = filter_map (change_here held live) (fold (λ keys key. with_key key keys) [] live.named)
 
 -- what the group leaves to its sync
-abbrev pub group_here : Held → Live → Group
+abbrev pub group_here : Held → Live → PlainClosed
 group_here held live = record { log = changes_here held live; slots = live.slots; contents = live.contents; modes = held.modes; quota = held.quota }

@@ -2,9 +2,9 @@
 
 ghost use Rattle.std.specs.Prelude.{◌≡◌, ◌≤◌, ◌+◌, ◌^◌, ◌<◌, [], ◌∷◌, map, length, IfOk, OnErr};
 ghost use Rattle.pool_model.specs.Plain.{reply_of, task_of, told_of};
-ghost use Rattle.txg_sync.specs.Planning.{group_in};
-ghost use Rattle.txg_sync.specs.Syncing.{IsInRange};
-ghost use Rattle.txg_sync.specs.Writing.{block_places};
+ghost use Rattle.table_state.specs.Closing.{closed_of};
+ghost use Rattle.table_state.specs.Closing.{IsInRange};
+ghost use Rattle.table_state.specs.Closing.{block_places};
 ghost use Rattle.lane_run.specs.Live.{group_here};
 ghost use Rattle.lane_run.specs.Going.{lanes_here};
 
@@ -53,8 +53,8 @@ pub fn ended(
 ) -> Result<Closed, AllocError>
     requires last { pool.now.group < 2 ^ 63 }
     requires unnoted { note.old.lanes.items ≡ [] }
-    ensures group { IfOk result (λ closed. group_in closed ≡ group_here pool.now live) }
-    ensures in_range { IfOk result (λ closed. IsInRange pool.now (group_in closed)) }
+    ensures group { IfOk result (λ closed. closed_of closed ≡ group_here pool.now live) }
+    ensures in_range { IfOk result (λ closed. IsInRange pool.now (closed_of closed)) }
     ensures noted { IfOk result (λ closed. told_of note.new ≡ record (told_of note.old) { lanes = lanes_here (map task_of commands.now) live.replies (block_places live.contents) faults }) }
     ensures unnoted { OnErr result (told_of note.new ≡ told_of note.old) }
     ensures still { OnErr result (note.new.lanes.items ≡ []) }

@@ -31,13 +31,13 @@ pub fn run_lane<D: Disk, K: KeyOf>(
     keys: u64,
 ) -> Result<LiveGroup, AllocError>
     requires sound { IsSound pool.now }
-    requires on_disk { pool.now.sectors ≤ D.sectors_of disk.now }
+    requires on_disk { pool.now.sectors ≤ (D.state disk.now).sectors }
     requires few { length commands.now ≤ 65_536 }
     requires writes { AllByRecursion IsFirstWrite (map task_of commands.now) }
     requires places { AreFirstFree pool.now.used (length commands.now) places.now }
     requires counted { keys ≡ length (counted_homes pool.now.table) }
     requires few_keys { keys < 2 ^ 62 }
-    ensures { IfOk result (λ live. HasRun (D.seen disk.now) (K.key_of keyer.now) pool.now moment (map task_of commands.now) places.now (D.meter_faults meter.old) (D.meter_faults meter.new) live) }
+    ensures { IfOk result (λ live. HasRun (D.state disk.now).seen (K.keying keyer.now).key_of pool.now moment (map task_of commands.now) places.now (D.meter_faults meter.old) (D.meter_faults meter.new) live) }
 {
     let mut live = LiveGroup::opened(alloc, keys, commands.len() as u64)?;
     'commands: for command in commands {

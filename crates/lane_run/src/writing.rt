@@ -41,8 +41,8 @@ fn write<D: Disk, K: KeyOf>(
     requires some { 0 < length block.items }
     requires fits { length block.items ≤ 4096 }
     requires number { pool.now.group < 2 ^ 63 }
-    requires ready { IsReady pool.now (D.sectors_of disk.now) live }
-    ensures { IfOk result (λ next. IsWritten (D.seen disk.now) (K.key_of keyer.now) pool.now moment place slot block.items (D.meter_faults meter.old) (D.meter_faults meter.new) live next) }
+    requires ready { IsReady pool.now (D.state disk.now).sectors live }
+    ensures { IfOk result (λ next. IsWritten (D.state disk.now).seen (K.keying keyer.now).key_of pool.now moment place slot block.items (D.meter_faults meter.old) (D.meter_faults meter.new) live next) }
 {
     let key = keyer.key(block.as_slice());
     let row = chosen(
@@ -89,8 +89,8 @@ pub fn turn<D: Disk, K: KeyOf>(
 ) -> Result<LiveGroup, AllocError>
     requires write { IsFirstWrite (task_of command.now) }
     requires number { pool.now.group < 2 ^ 63 }
-    requires ready { IsReady pool.now (D.sectors_of disk.now) live }
-    ensures { IfOk result (λ next. WritesAct (D.seen disk.now) (K.key_of keyer.now) pool.now moment place command.now.slot (act_of command.now.verb) (D.meter_faults meter.old) (D.meter_faults meter.new) live next) }
+    requires ready { IsReady pool.now (D.state disk.now).sectors live }
+    ensures { IfOk result (λ next. WritesAct (D.state disk.now).seen (K.keying keyer.now).key_of pool.now moment place command.now.slot (act_of command.now.verb) (D.meter_faults meter.old) (D.meter_faults meter.new) live next) }
 {
     let Verb::Write(payload) = &command.verb else {
         unreachable!()

@@ -63,8 +63,8 @@ module _ (test : Pointer → Bool) (ps : List Pointer) (left later : Key → Opt
 inserted : (P : Pointer → Type 0) (p : Pointer) (ps : List Pointer) → AllByRecursion P (insert_pointer p ps) → P p
 inserted P p [] all = all.0
 inserted P p (q ∷ qs) all =
-    elim (comes_before p q) as (λ b. AllByRecursion P (cond b (p ∷ q ∷ qs) (q ∷ insert_pointer p qs))
-    → P p) [ true ↦ λ each. each.0 | false ↦ λ each. inserted P p qs each.1 ] all
+    elim (comes_before p q) as (λ b. AllByRecursion P (cond b (p ∷ q ∷ qs) (q ∷ insert_pointer p qs)) → P p)
+    [ true ↦ λ each. each.0 | false ↦ λ each. inserted P p qs each.1 ] all
 
 module _ (p : Pointer) (ps : List Pointer) (left later : Key → Option Home)
     (as_left : (key : Key) → later key ≡ left_after (left key) (filter (tracks key) ps)) where
@@ -236,8 +236,8 @@ pub aside_opened : (sectors number : ℕ) (pool : Pool) (before : Key → Option
     → MatchesByKey sectors pool before → IsAside number before pool.pointers before
 aside_opened sectors number pool before later formed matched = record {
   stays = λ key home is. inr (record { was = home; is = sym (whole key) ∙ is; place = refl; birth = refl });
-  aside = λ key was home is_was is own. absurd
-      (omega (arith, own, later, (before_opened sectors pool before formed matched).birth key home (sym (whole key) ∙ is)));
+  aside = λ key was home is_was is own.
+      absurd (omega (arith, own, later, (before_opened sectors pool before formed matched).birth key home (sym (whole key) ∙ is)));
 }
   where
     whole : (key : Key) → home_now (before key) (filter (tracks key) pool.pointers) ≡ before key

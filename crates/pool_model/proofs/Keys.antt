@@ -52,8 +52,8 @@ first_same x y xs ys one other same = by_order (key_cmp x y) refl
     by_order : (o : Ordering) → key_cmp x y ≡ o → x ≡ y
     by_order Less said = absurd (never_among x y xs ys other (ap is_lt said) (same x))
     by_order Equal said = exact_keys x y said
-    by_order Greater said = absurd
-        (never_among y x ys xs one (ap is_lt (key_cmp_total.antisymm y x ∙ ap ordering_reverse said)) (sym (same y)))
+    by_order Greater said =
+        absurd (never_among y x ys xs one (ap is_lt (key_cmp_total.antisymm y x ∙ ap ordering_reverse said)) (sym (same y)))
 
 rest_same : (x y key : Key) (xs ys : List Key) → x ≡ y → Rising (x ∷ xs) → Rising (y ∷ ys) → is_among key (x ∷ xs) ≡ is_among key (y ∷ ys)
     → is_among key xs ≡ is_among key ys

@@ -14,8 +14,7 @@ all_insert P p [] here all = (here, tt)
 all_insert P p (q ∷ qs) here all =
     elim (comes_before p q) as (λ b. AllByRecursion P (cond b (p ∷ q ∷ qs) (q ∷ insert_pointer p qs))) [
       | true ↦ (here, all)
-      | false ↦
-          (all.0, all_insert P p qs here all.1)
+      | false ↦ (all.0, all_insert P p qs here all.1)
     ]
 
 pub pairs_insert : (R : Pointer → Pointer → Type 0) → ((a b : Pointer) → R a b → R b a) → (p : Pointer) (ps : List Pointer)
@@ -24,8 +23,7 @@ pairs_insert R turned p [] with_all pairs = (tt, tt)
 pairs_insert R turned p (q ∷ qs) with_all pairs =
     elim (comes_before p q) as (λ b. Pairwise R (cond b (p ∷ q ∷ qs) (q ∷ insert_pointer p qs))) [
       | true ↦ (with_all, pairs)
-      | false ↦
-          (all_insert (R q) p qs (turned p q with_all.0) pairs.0, pairs_insert R turned p qs with_all.1 pairs.1)
+      | false ↦ (all_insert (R q) p qs (turned p q with_all.0) pairs.0, pairs_insert R turned p qs with_all.1 pairs.1)
     ]
 
 -- a pointer that doesn't pass leaves those that do
@@ -35,39 +33,43 @@ filter_insert test p [] fails = ap (λ b. cond b (p ∷ []) []) fails
 filter_insert test p (q ∷ qs) fails =
     elim (comes_before p q) as (λ b. filter test (cond b (p ∷ q ∷ qs) (q ∷ insert_pointer p qs)) ≡ filter test (q ∷ qs)) [
       | true ↦ ap (λ b. cond b (p ∷ filter test (q ∷ qs)) (filter test (q ∷ qs))) fails
-      | false ↦ ap (λ l. cond (test q) (q ∷ l) l)
-          (filter_insert test p qs fails)
+      | false ↦ ap (λ l. cond (test q) (q ∷ l) l) (filter_insert test p qs fails)
     ]
 
 -- where nothing of the longer list passes, the pointer doesn't, and nothing of the shorter does
 pub none_insert : (test : Pointer → Bool) (p : Pointer) (ps : List Pointer) → filter test (insert_pointer p ps) ≡ []
     → (test p ≡ false) × (filter test ps ≡ [])
-none_insert test p [] none =
-    elim (test p) as (λ b. cond b (p ∷ []) [] ≡ []
-    → (b ≡ false) × (filter test [] ≡ [])) [ true ↦ λ e. absurd (cc e) | false ↦ λ e. (refl, refl) ] none
-none_insert test p (q ∷ qs) none =
-    elim (comes_before p q) as (λ b. filter test (cond b (p ∷ q ∷ qs) (q ∷ insert_pointer p qs)) ≡ []
-    → (test p ≡ false) × (filter test (q ∷ qs) ≡ [])) [
-      | true ↦ elim (test p) as (λ b. cond b (p ∷ filter test (q ∷ qs)) (filter test (q ∷ qs)) ≡ []
-          → (b ≡ false) × (filter test (q ∷ qs) ≡ [])) [ true ↦ λ e. absurd (cc e) | false ↦ λ e. (refl, e) ]
-      | false ↦ elim (test q) as (λ b. cond b (q ∷ filter test (insert_pointer p qs)) (filter test (insert_pointer p qs)) ≡ []
-          → (test p ≡ false) × (cond b (q ∷ filter test qs) (filter test qs) ≡ [])) [
-            | true ↦ λ e. absurd
-                (cc e)
-            | false ↦ λ e. none_insert test p qs e
-          ]
-    ] none
+none_insert test p [] none = alone (test p) none
+  where
+    alone : (b : Bool) → cond b (p ∷ []) [] ≡ [] → (b ≡ false) × (filter test [] ≡ [])
+    alone true e = absurd (cc e)
+    alone false e = (refl, refl)
+none_insert test p (q ∷ qs) none = by_order (comes_before p q) (none_insert test p qs) none
+  where
+    first : (b : Bool) → cond b (p ∷ filter test (q ∷ qs)) (filter test (q ∷ qs)) ≡ [] → (b ≡ false) × (filter test (q ∷ qs) ≡ [])
+    first true e = absurd (cc e)
+    first false e = (refl, e)
+
+    later : (b : Bool) → (filter test (insert_pointer p qs) ≡ [] → (test p ≡ false) × (filter test qs ≡ []))
+        → cond b (q ∷ filter test (insert_pointer p qs)) (filter test (insert_pointer p qs)) ≡ []
+        → (test p ≡ false) × (cond b (q ∷ filter test qs) (filter test qs) ≡ [])
+    later true rest e = absurd (cc e)
+    later false rest e = rest e
+
+    by_order : (b : Bool) → (filter test (insert_pointer p qs) ≡ [] → (test p ≡ false) × (filter test qs ≡ []))
+        → filter test (cond b (p ∷ q ∷ qs) (q ∷ insert_pointer p qs)) ≡ [] → (test p ≡ false) × (filter test (q ∷ qs) ≡ [])
+    by_order true rest e = first (test p) e
+    by_order false rest e = later (test q) rest e
 
 -- none passes a test where the filter leaves nothing, or nothing is found
 pub all_fail : (test : Pointer → Bool) (ps : List Pointer) → filter test ps ≡ [] → AllByRecursion (λ q. test q ≡ false) ps
 all_fail test [] none = tt
-all_fail test (q ∷ qs) none =
-    elim (test q) as (λ b. cond b (q ∷ filter test qs) (filter test qs) ≡ []
-    → (b ≡ false) × AllByRecursion (λ r. test r ≡ false) qs) [
-      | true ↦ λ e. absurd (cc e)
-      | false ↦ λ e.
-          (refl, all_fail test qs e)
-    ] none
+all_fail test (q ∷ qs) none = by_test (test q) (all_fail test qs) none
+  where
+    by_test : (b : Bool) → (filter test qs ≡ [] → AllByRecursion (λ r. test r ≡ false) qs) → cond b (q ∷ filter test qs) (filter test qs) ≡ []
+        → (b ≡ false) × AllByRecursion (λ r. test r ≡ false) qs
+    by_test true rest e = absurd (cc e)
+    by_test false rest e = (refl, rest e)
 
 -- the first that passes has what each has
 pub first_has : (P : Pointer → Type 0) (test : Pointer → Bool) (ps : List Pointer) (q : Pointer) (rest : List Pointer)

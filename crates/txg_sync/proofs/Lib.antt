@@ -10,6 +10,7 @@ pub mod NamedStays
 pub mod Outcomes
 pub mod Afterwards
 pub mod PlannedLimits
+pub mod FewHomes
 pub mod PlannedRecords
 pub mod PlannedSlots
 pub mod PlannedSeals

@@ -15,7 +15,7 @@ returns-then-is_empty-clause-run g c =
     let none : length c.args.commands.now ≡ 0 = eqb-true (length c.args.commands.now) 0 (sym c.is_empty.ensures ∙ c.if-is_empty.true) in (
       c.in-Some.places.items,
       subst (λ (used : List Bool). AreFirstFree used (length (map task_of c.args.commands.now)) c.in-Some.places.items) used_is (subst (λ n. AreFirstFree c.pool.inside.used n c.in-Some.places.items) (sym (length-map c.args.commands.now task_of)) found),
-      run_over (g.D.Disk.seen c.args.disk.now) (g.K.KeyOf.key_of c.args.keyer.now) c.args.pool.now c.args.moment (map task_of c.args.commands.now) c.in-Some.places.items 0 c.in-Ok-opened.live
-          (subst (HasRun (g.D.Disk.seen c.args.disk.now) (g.K.KeyOf.key_of c.args.keyer.now) c.args.pool.now c.args.moment (map task_of c.args.commands.now) c.in-Some.places.items 0 0) (sym c.in-Ok-opened.ensures)
-          (run_none (g.D.Disk.seen c.args.disk.now) (g.K.KeyOf.key_of c.args.keyer.now) c.args.pool.now c.args.moment c.args.commands.now c.in-Some.places.items c.in-Ok-counted_keys.keys c.in-Ok-counted_keys.ensures.keys none)),
+      run_over (g.D.Disk.state c.args.disk.now).seen (g.K.KeyOf.keying c.args.keyer.now).key_of c.args.pool.now c.args.moment (map task_of c.args.commands.now) c.in-Some.places.items 0 c.in-Ok-opened.live
+          (subst (HasRun (g.D.Disk.state c.args.disk.now).seen (g.K.KeyOf.keying c.args.keyer.now).key_of c.args.pool.now c.args.moment (map task_of c.args.commands.now) c.in-Some.places.items 0 0) (sym c.in-Ok-opened.ensures)
+          (run_none (g.D.Disk.state c.args.disk.now).seen (g.K.KeyOf.keying c.args.keyer.now).key_of c.args.pool.now c.args.moment c.args.commands.now c.in-Some.places.items c.in-Ok-counted_keys.keys c.in-Ok-counted_keys.ensures.keys none)),
     )
