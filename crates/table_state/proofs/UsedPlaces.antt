@@ -1,5 +1,5 @@
 -- Each sector that a pool names is marked as used: those of its pages, of its pointers and of the homes that wait.
-use Rattle.std.proofs.Common.{◌≡◌, ℕ, ◌+◌, ◌≤◌, Bool, true, false, ◌||◌, ◌==◌, List, [], ◌∷◌, refl, ap, subst, ◌∙◌, eq-eqb, arith}
+use Rattle.std.proofs.Common.{◌≡◌, ℕ, ◌+◌, Bool, true, false, ◌||◌, ◌==◌, List, [], ◌∷◌, refl, ap, ◌∙◌, eq-eqb, arith}
 use Rattle.std.specs.Prelude.{nat_lt, slice_index_or}
 use Rattle.std.specs.List.{AllByRecursion, list_any}
 use Rattle.std.proofs.lemmas.Bool.{and_from, lt-ltb, le-leb, ltb-true, ltb-false}
@@ -9,7 +9,7 @@ use Rattle.ddt_entry.specs.declared.entry.Entry.{Entry}
 use Rattle.pool_model.specs.Pool.{Pool, Pointer, run_length}
 use Rattle.pool_model.specs.Space.{is_used, lies_in, used_sectors}
 use Rattle.pool_model.specs.Table.{TableState, waiting_in}
-use Rattle.pool_model.proofs.Lists.{all_from, all_from_both}
+use Rattle.pool_model.proofs.Lists.{all_from}
 use Rattle.table_state.proofs.UsedLaws.{length-used_sectors}
 
 or_behind : (a b : Bool) → b ≡ true → (a || b) ≡ true
