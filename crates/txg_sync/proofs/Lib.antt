@@ -6,7 +6,6 @@ pub mod Parts
 pub mod Filling
 pub mod Stored
 pub mod Groups
-pub mod NamedStays
 pub mod Outcomes
 pub mod Afterwards
 pub mod PlannedLimits
