@@ -1,55 +1,31 @@
--- A table whose chains have places among a pool's sectors finds few homes.
-use Rattle.std.proofs.Common.{◌≡◌, ◌∙◌, ℕ, ◌+◌, ◌^◌, ◌<◌, ◌≤◌, Bool, List, [], ◌∷◌, length, map, ap, arith}
-use Rattle.std.proofs.lemmas.List.{length-map}
-use Rattle.std.proofs.lemmas.List.Sums.{sum_by-cons}
-use Rattle.ddt_entry.specs.Records.{record_bytes}
-use Rattle.page_tree.specs.Chains.{pages_for}
+-- The table after a group finds few homes, once its chains have places among the pool's sectors.
+use Rattle.std.proofs.Common.{◌≡◌, ◌∙◌, ℕ, ◌+◌, ◌^◌, ◌<◌, ◌≤◌, List, [], length, ap, sym, subst, arith}
 use Rattle.page_tree.proofs.OpenPlaces.{open_places-fewer}
 use Rattle.pool_model.specs.Plain.{Stored}
-use Rattle.pool_model.specs.Table.{TableState, entries_found, IsTable}
-use Rattle.table_state.specs.Sealed.{ChainPart, places_in, records_in, entry_bytes}
-use Rattle.table_state.specs.SlotRecords.{slot_bytes}
-use Rattle.table_state.specs.Tables.{unique_in, duplicate_in, table_pages}
+use Rattle.pool_model.specs.Table.{TableState, IsTable, entries_found, sync_table}
+use Rattle.pool_model.proofs.Syncing.{sync_keeps}
+use Rattle.ddt_entry.specs.declared.entry.Change.{Change}
+use Rattle.table_state.specs.Pools.{Held}
+use Rattle.table_state.specs.Sealed.{ChainPart, places_in, records_in}
+use Rattle.table_state.specs.Sound.{IsSound}
+use Rattle.table_state.specs.Tables.{table_pages}
 use Rattle.table_state.specs.declared.slot_record.SlotRecord.{SlotRecord}
-use Rattle.txg_sync.specs.Placing.{pages_of, ArePlaced}
+use Rattle.table_state.proofs.RoomLaws.{pages_of_records}
+use Rattle.table_state.specs.Closing.{pages_of}
+use Rattle.txg_sync.specs.Placing.{ArePlaced}
 use Rattle.txg_sync.proofs.PlacedParts.{places_as_pages}
 use Rattle.txg_sync.proofs.PlannedLimits.{few_found}
 
-pages_of_five : (a b c d e : List (List ℕ))
-    → pages_of (a ∷ b ∷ c ∷ d ∷ e ∷ [])
-    ≡ pages_for (length a) + pages_for (length b) + pages_for (length c) + pages_for (length d) + pages_for (length e)
-pages_of_five a b c d e =
-    omega (
-      arith,
-      sum_by-cons (λ (rs : List (List ℕ)). pages_for (length rs)) a (b ∷ c ∷ d ∷ e ∷ []),
-      sum_by-cons (λ (rs : List (List ℕ)). pages_for (length rs)) b (c ∷ d ∷ e ∷ []),
-      sum_by-cons (λ (rs : List (List ℕ)). pages_for (length rs)) c (d ∷ e ∷ []),
-      sum_by-cons (λ (rs : List (List ℕ)). pages_for (length rs)) d (e ∷ []),
-      sum_by-cons (λ (rs : List (List ℕ)). pages_for (length rs)) e [],
-    )
+module _ (held : Held) (sound : IsSound held) (contents : List Stored) (slots : List SlotRecord) (table : TableState)
+    (parts : List ChainPart) (placed : ArePlaced held.used contents (records_in slots table) parts) where
+  -- each page has a sector of its own
+  few_pages : table_pages table ≤ 1_000_000
+  few_pages =
+      let spelled : length (places_in parts) ≡ pages_of (records_in slots table) =
+      places_as_pages parts placed.pages ∙ ap pages_of placed.spelled in
+      let some : 0 < length held.used = omega (arith, sound.used_len, sound.enough) in
+      let fewer = open_places-fewer (length held.used) [] (places_in parts) some placed.places_open in
+      omega (arith, spelled, pages_of_records slots table, fewer, sound.used_len, sound.few)
 
--- the chains of a table have fewer pages than there are sectors
-pub few_pages : (used : List Bool) (contents : List Stored) (slots : List SlotRecord) (table : TableState) (parts : List ChainPart)
-    → ArePlaced used contents (records_in slots table) parts → 0 < length used → table_pages table ≤ length used
-few_pages used contents slots table parts placed some =
-    let spelled : length (places_in parts) ≡ pages_of (records_in slots table) =
-    places_as_pages parts placed.pages ∙ ap pages_of placed.spelled in
-    let five = pages_of_five (map slot_bytes slots) (map entry_bytes (unique_in table.zap)) (map entry_bytes (duplicate_in table.zap))
-    (map record_bytes table.active) (map record_bytes table.flush) in
-    omega (
-      arith,
-      spelled,
-      five,
-      ap pages_for (length-map (unique_in table.zap) entry_bytes),
-      ap pages_for (length-map (duplicate_in table.zap) entry_bytes),
-      ap pages_for (length-map table.active record_bytes),
-      ap pages_for (length-map table.flush record_bytes),
-      open_places-fewer (length used) [] (places_in parts) some placed.places_open,
-    )
-
--- so it finds few homes
-pub few_homes : (used : List Bool) (contents : List Stored) (slots : List SlotRecord) (table : TableState) (parts : List ChainPart)
-    → ArePlaced used contents (records_in slots table) parts → 0 < length used → length used ≤ 1_000_000 → IsTable table
-    → length (entries_found table) ≤ 2 ^ 40
-few_homes used contents slots table parts placed some most is =
-    few_found table is (omega (arith, few_pages used contents slots table parts placed some, most))
+  pub few_homes : (log : List Change) → table ≡ sync_table log held.table → length (entries_found table) ≤ 2 ^ 40
+  few_homes log is = few_found table (subst IsTable (sym is) (sync_keeps log held.table sound.sorted)) few_pages
