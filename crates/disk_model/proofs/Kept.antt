@@ -5,7 +5,7 @@ use Rattle.std.proofs.lemmas.List.{append-nil, length-replicate, get_or-replicat
 use Rattle.std.proofs.lemmas.List.Elements.{All-push}
 use Rattle.disk_model.specs.Images.{Image, IsImage, Torn, sector_bytes, zero_sector}
 use Rattle.disk_model.specs.Crashes.{Elapses, Follows, NothingPending}
-use Rattle.disk_model.specs.Memory.{Cells, MayLeave, WasLeft, IsKept, IsWithin, padded, cells_after, cells_now, after_call, crash_image}
+use Rattle.disk_model.specs.Memory.{Cells, MayLeave, MemoryDisk, IsKept, IsWithin, padded, cells_after, cells_now, after_call, crash_image, state_of, told_by}
 use Rattle.disk_model.specs.declared.call.Call.{Call}
 use Rattle.disk_model.specs.declared.call.Call.TheVariants.{Write, Barrier}
 use Rattle.disk_model.specs.declared.call.SectorWrite.{SectorWrite}
@@ -106,7 +106,11 @@ module _ (sectors : ℕ) (start : Image) (calls : List Call) (cells : Image) (ke
   }
 
 -- time goes on with each call that was recorded
-pub elapses_to : (sectors : ℕ) (start : Image) (calls later : List Call) (call : Call) → later ≡ calls ++ call ∷ []
-    → Elapses (length calls) (length later) (WasLeft sectors start calls) (WasLeft sectors start later) (MayLeave sectors (cells_after start later))
-elapses_to sectors start calls later call recorded =
-    subst (λ (l : List Call). Elapses (length calls) (length l) (WasLeft sectors start calls) (WasLeft sectors start l) (MayLeave sectors (cells_after start l))) (sym recorded) (elapses_by_call sectors start calls call)
+pub elapses_to : (old : MemoryDisk) (sectors : ℕ) (start : Image) (later : List Call) (write_faults read_faults : ℕ) (call : Call)
+    → sectors ≡ old.sectors → start ≡ old.start → later ≡ old.calls ++ call ∷ []
+    → Elapses (state_of old) (told_by sectors start later write_faults read_faults)
+elapses_to old sectors start later write_faults read_faults call as_many same recorded =
+    subst (λ (l : List Call). Elapses (state_of old) (told_by sectors start l write_faults read_faults)) (sym recorded)
+    (subst (λ (i : Image). Elapses (state_of old) (told_by sectors i (old.calls ++ call ∷ []) write_faults read_faults)) (sym same)
+    (subst (λ n. Elapses (state_of old) (told_by n old.start (old.calls ++ call ∷ []) write_faults read_faults)) (sym as_many)
+    (elapses_by_call old.sectors old.start old.calls call old.write_faults old.read_faults write_faults read_faults)))

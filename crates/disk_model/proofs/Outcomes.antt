@@ -7,7 +7,7 @@ use Rattle.std.proofs.lemmas.List.Sums.{fold-append}
 use Rattle.std.proofs.lemmas.List.Folds.{list_any-append}
 use Rattle.disk_model.specs.Images.{Image, IsImage, Torn, sector_at, sector_bytes}
 use Rattle.disk_model.specs.Crashes.{Elapses, NothingPending}
-use Rattle.disk_model.specs.Memory.{Cells, MayLeave, WasLeft, cells_after, cells_now, after_call, write_sector, touches, choice_at, crash_sector}
+use Rattle.disk_model.specs.Memory.{Cells, MayLeave, WasLeft, cells_after, cells_now, after_call, write_sector, touches, choice_at, crash_sector, told_by}
 use Rattle.disk_model.specs.declared.call.Call.{Call}
 use Rattle.disk_model.specs.declared.call.Call.TheVariants.{Write, Barrier}
 use Rattle.disk_model.specs.declared.call.SectorWrite.{SectorWrite}
@@ -80,8 +80,11 @@ earlier calls call done within = take-append-le done calls (call ∷ []) within
 
 -- a call that was recorded
 pub elapses_by_call : (sectors : ℕ) (start : Image) (calls : List Call) (call : Call)
-    → Elapses (length calls) (length (calls ++ call ∷ [])) (WasLeft sectors start calls) (WasLeft sectors start (calls ++ call ∷ [])) (MayLeave sectors (cells_after start (calls ++ call ∷ [])))
-elapses_by_call sectors start calls call = record { later = omega (arith, more); nothing_else = nothing_else; keeps = keeps }
+    (write_faults read_faults more_write_faults more_read_faults : ℕ)
+    → Elapses (told_by sectors start calls write_faults read_faults)
+    (told_by sectors start (calls ++ call ∷ []) more_write_faults more_read_faults)
+elapses_by_call sectors start calls call write_faults read_faults more_write_faults more_read_faults =
+    record { later = omega (arith, more); nothing_else = nothing_else; keeps = keeps }
   where
     more : length (calls ++ call ∷ []) ≡ length calls + 1
     more = length-append calls (call ∷ [])
@@ -108,10 +111,6 @@ elapses_by_call sectors start calls call = record { later = omega (arith, more);
       no_later = omega (arith, was.no_later, more);
       left = subst (Left c) (sym (earlier calls call was.done was.no_later)) was.left;
     }
-
--- a call that was not recorded
-pub elapses_by_none : (sectors : ℕ) (start : Image) (calls : List Call) → Elapses (length calls) (length calls) (WasLeft sectors start calls) (WasLeft sectors start calls) (MayLeave sectors (cells_after start calls))
-elapses_by_none sectors start calls = record { later = omega arith; nothing_else = λ since c earlier was. inl was; keeps = λ since c earlier was. was }
 
 -- one of three
 pick : (first second : Bool) (P : Image → Type 0) (x y z : Image) → P x → P y → P z → P (if first then x else (if second then y else z))

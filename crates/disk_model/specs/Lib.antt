@@ -1,3 +1,4 @@
+pub mod Accounts
 pub mod Crashes
 pub mod Faults
 pub mod Images

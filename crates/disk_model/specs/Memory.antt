@@ -1,6 +1,7 @@
 -- What contracts see of a disk in memory: what it held when it was made, the calls that it did since, and its counts.
-use Rattle.std.specs.Prelude.{◌≡◌, ◌<◌, ◌≤◌, ⊤, ℕ, ◌-◌, ◌%◌, Bool, false, ◌==◌, List, [], ◌∷◌, ◌++◌, length, take, fold, replicate, slice_set, None, Result, MatchResult, All, if◌then◌else◌}
+use Rattle.std.specs.Prelude.{◌≡◌, ◌<◌, ◌≤◌, ⊤, ℕ, ◌-◌, ◌%◌, Bool, false, ◌==◌, List, [], ◌∷◌, ◌++◌, length, take, fold, replicate, slice_set, Some, None, Result, MatchResult, All, if◌then◌else◌}
 use Rattle.std.specs.List.{list_any}
+use Rattle.disk_model.specs.Crashes.{DiskState}
 use Rattle.disk_model.specs.Images.{Image, IsImage, sector_at, sector_bytes, zero_sector}
 use Rattle.disk_model.specs.Faults.{one_more}
 use Rattle.disk_model.specs.Plans.{fails_call}
@@ -76,8 +77,20 @@ pub record WasLeft (sectors : ℕ) (start : Image) (calls : List Call) (since : 
   pub no_later : done ≤ length calls
   pub left : MayLeave sectors (cells_after start (take done calls)) c
 
-abbrev pub WasLeftSince : MemoryDisk → (since : ℕ) → Image → Type 0
-WasLeftSince disk since c = WasLeft disk.sectors disk.start disk.calls since c
+-- the state of a disk of so many sectors that held this, after these calls and faults
+abbrev pub told_by : (sectors : ℕ) (start : Image) (calls : List Call) (write_faults read_faults : ℕ) → DiskState
+told_by sectors start calls write_faults read_faults = record {
+  sectors = sectors;
+  seen = Some (cells_now (cells_after start calls));
+  may_leave = MayLeave sectors (cells_after start calls);
+  clock = length calls;
+  left_since = WasLeft sectors start calls;
+  write_faults = write_faults;
+  read_faults = read_faults;
+}
+
+abbrev pub state_of : MemoryDisk → DiskState
+state_of disk = told_by disk.sectors disk.start disk.calls disk.write_faults disk.read_faults
 
 -- a disk of so many sectors that hold this, with nothing pending, nothing to fail, and no calls made
 abbrev pub new_disk : (sectors : ℕ) → Image → MemoryDisk

@@ -1,11 +1,12 @@
 ghost use Rattle.std.specs.Prelude.{◌≡◌, ◌≤◌, ◌<◌, ◌+◌, ◌-◌, ◌^◌, ℕ, [], ◌∷◌, ◌++◌, length, replicate, Some, min, IfOk, IfErr, OnOk, OnErr, IsErr, IsTrue, ◌↔◌};
 ghost use Rattle.disk_model.specs.Images.{Image, IsImage, Torn, Stays, Holds, MayTouch, Gives, TellsImage, zero_sector};
 ghost use Rattle.disk_model.specs.Crashes.{Follows, SameOutcomes, NothingPending, Elapses};
+ghost use Rattle.disk_model.specs.Accounts.{Keeps, Accounts};
 ghost use Rattle.disk_model.specs.Faults.{HasCause, one_more};
 ghost use Rattle.disk_model.specs.Plans.{fails_read};
-ghost use Rattle.disk_model.specs.Memory.{MemoryDisk, contents, cells_of, MayBeLeft, WasLeftSince, padded, new_disk, next_fails, refused, without_memory, recorded, metered, Answers, crash_image};
+ghost use Rattle.disk_model.specs.Memory.{MemoryDisk, contents, cells_of, MayBeLeft, state_of, padded, new_disk, next_fails, refused, without_memory, recorded, metered, Answers, crash_image};
 ghost use Rattle.disk_model.specs.declared.call.Call.TheVariants.{Write, Barrier};
-ghost use Rattle.disk_model.specs.MemoryLaws.{left_now, no_other, always_told};
+ghost use Rattle.disk_model.specs.MemoryLaws.{is_disk, always_told};
 
 use crate::call::{Call, SectorWrite};
 use crate::crash::{crash_all, padded_copy, replay};
@@ -190,27 +191,11 @@ impl MemDisk {
 impl Disk for MemDisk {
     type Meter = MemMeter;
 
-    ghost sectors_of = { λ disk. disk.sectors };
-
-    ghost seen = { λ disk. Some (contents disk) };
-
-    ghost may_leave = { λ disk c. MayBeLeft disk c };
-
-    ghost clock = { λ disk. length disk.calls };
-
-    ghost left_since = { λ disk since c. WasLeftSince disk since c };
-
-    ghost write_faults = { λ disk. disk.write_faults };
-
-    ghost read_faults = { λ disk. disk.read_faults };
+    ghost state = { λ disk. state_of disk };
 
     ghost meter_faults = { λ meter. meter.failed };
 
-    ghost counts_now = { λ disk since c earlier left. left_now disk since c earlier left };
-
-    ghost only_now = { λ disk c was. no_other disk c was };
-
-    ghost leaves_images = { λ disk c left. left.image };
+    ghost is_disk = { λ disk. is_disk disk };
 
     ghost tells_alike = { λ disk other untold. always_told (contents disk) (contents other) untold };
 
@@ -219,12 +204,10 @@ impl Disk for MemDisk {
     }
 
     fn meter(&mut self) -> Result<MemMeter, Failed>
-        ensures sectors { self.new.sectors ≡ self.old.sectors }
         ensures contents { Stays (Some (contents self.old)) (Some (contents self.new)) }
         ensures crash { SameOutcomes (MayBeLeft self.old) (MayBeLeft self.new) }
-        ensures time { Elapses (length self.old.calls) (length self.new.calls) (WasLeftSince self.old) (WasLeftSince self.new) (MayBeLeft self.new) }
-        ensures reads { self.old.read_faults ≤ self.new.read_faults }
-        ensures cause { HasCause self.old.write_faults self.new.write_faults result }
+        ensures time { Elapses (state_of self.old) (state_of self.new) }
+        ensures accounts { Accounts (state_of self.old) (state_of self.new) result }
         ensures fresh { IfOk result (λ meter. meter.failed ≡ 0) }
 
         // It fails exactly where it is told to: it takes no memory.
@@ -245,13 +228,11 @@ impl Disk for MemDisk {
     }
 
     fn retire(&mut self, meter: MemMeter)
-        ensures sectors { self.new.sectors ≡ self.old.sectors }
         ensures contents { Stays (Some (contents self.old)) (Some (contents self.new)) }
         ensures crash { SameOutcomes (MayBeLeft self.old) (MayBeLeft self.new) }
-        ensures time { Elapses (length self.old.calls) (length self.new.calls) (WasLeftSince self.old) (WasLeftSince self.new) (MayBeLeft self.new) }
+        ensures time { Elapses (state_of self.old) (state_of self.new) }
+        ensures keeps { Keeps (state_of self.old) (state_of self.new) }
         ensures reads { min (self.old.read_faults + meter.failed) (2 ^ 64 - 1) ≤ self.new.read_faults }
-        ensures kept { self.old.read_faults ≤ self.new.read_faults }
-        ensures writes { self.old.write_faults ≤ self.new.write_faults }
         ensures counted { self.new ≡ record self.old { read_faults = min (self.old.read_faults + meter.failed) (2 ^ 64 - 1) } }
     {
         self.read_faults = self.read_faults.saturating_add(meter.failed());
@@ -279,13 +260,11 @@ impl Disk for MemDisk {
 
     fn write(&mut self, at: u64, from: &[u8; 4096]) -> Result<(), Failed>
         requires { at < self.old.sectors }
-        ensures sectors { self.new.sectors ≡ self.old.sectors }
         ensures written { OnOk result (Holds (Some (contents self.old)) (Some (contents self.new)) at from.now) }
         ensures touched { OnErr result (MayTouch (Some (contents self.old)) (Some (contents self.new)) at) }
         ensures crash { Follows (Torn at) (MayBeLeft self.old) (MayBeLeft self.new) }
-        ensures time { Elapses (length self.old.calls) (length self.new.calls) (WasLeftSince self.old) (WasLeftSince self.new) (MayBeLeft self.new) }
-        ensures reads { self.old.read_faults ≤ self.new.read_faults }
-        ensures cause { HasCause self.old.write_faults self.new.write_faults result }
+        ensures time { Elapses (state_of self.old) (state_of self.new) }
+        ensures accounts { Accounts (state_of self.old) (state_of self.new) result }
 
         // It fails where it is told to, or for want of memory, and then changes its counts alone.
         ensures exact { Answers self.old self.new result
@@ -304,13 +283,11 @@ impl Disk for MemDisk {
     }
 
     fn barrier(&mut self) -> Result<(), Failed>
-        ensures sectors { self.new.sectors ≡ self.old.sectors }
         ensures contents { Stays (Some (contents self.old)) (Some (contents self.new)) }
         ensures durable { OnOk result (NothingPending (Some (contents self.new)) (MayBeLeft self.new)) }
         ensures crash { (c : Image) → MayBeLeft self.new c → MayBeLeft self.old c }
-        ensures time { Elapses (length self.old.calls) (length self.new.calls) (WasLeftSince self.old) (WasLeftSince self.new) (MayBeLeft self.new) }
-        ensures reads { self.old.read_faults ≤ self.new.read_faults }
-        ensures cause { HasCause self.old.write_faults self.new.write_faults result }
+        ensures time { Elapses (state_of self.old) (state_of self.new) }
+        ensures accounts { Accounts (state_of self.old) (state_of self.new) result }
 
         // It fails where it is told to, or for want of memory, and then changes its counts alone.
         ensures exact { Answers self.old self.new result (recorded self.old Barrier) }

@@ -4,17 +4,16 @@ use Rattle.std.proofs.lemmas.List.Elements.{All-map, All-nil, All-cons, All-head
 use Rattle.ddt_entry.specs.declared.key.Key.{Key}
 use Rattle.disk_model.specs.Images.{Image}
 use Rattle.pool_model.specs.Pool.{Pool, Pairwise}
-use Rattle.pool_model.specs.Table.{TableState}
+use Rattle.pool_model.specs.Table.{TableState, IsTable}
 use Rattle.pool_stats.specs.References.{reference_of, AreSmall}
 use Rattle.pool_stats.specs.declared.reference.Reference.{Reference}
 use Rattle.table_state.specs.Flat.{pointer_of, stands_before}
 use Rattle.table_state.specs.Pools.{Held, IsHeld}
 use Rattle.table_state.specs.Sound.{IsSound}
-use Rattle.table_state.specs.Tables.{IsTable}
 use Rattle.table_state.proofs.TableBack.{is_table_in}
 use Rattle.table_state.specs.declared.slot_record.SlotRecord.{SlotRecord}
 use Rattle.held_stats.specs.Slots.{reference_in}
-use Rattle.held_stats.proofs.Numbers.{length-rising, short_keys}
+use Rattle.table_state.proofs.SlotCounts.{few_slots, short_keys}
 
 references_of-slots : (image : Image) (table : TableState) (slots : List SlotRecord) → map reference_of (map (pointer_of image table) slots) ≡ map (reference_in table) slots
 references_of-slots image table [] = refl
@@ -28,11 +27,6 @@ references_of-held image held pool table is =
     ∙ ap (λ slots. map reference_of (map (pointer_of image held.table) slots)) (sym is.slots_are)
     ∙ references_of-slots image held.table held.slots
 
--- the slots of such a pool are few
-pub few_slots : (image : Image) (held : Held) (pool : Pool) (table : TableState) → IsSound held → IsHeld image held pool table → length held.slots ≤ 1048576
-few_slots image held pool table sound is =
-    length-rising held.sectors held.group held.slots sound.slots_within (subst (λ (slots : List SlotRecord). Pairwise (λ a b. stands_before a b ≡ true) slots) (sym is.slots_are) is.stands.whole.slots_rising)
-
 length-keys : {X : Type 0} (key_of : X → Key) (xs : List X) → length (map key_of xs) ≡ length xs
 length-keys key_of [] = refl
 length-keys key_of (x ∷ xs) = omega (arith, length-keys key_of xs)
@@ -43,14 +37,24 @@ All-unmap {X} P f [] all = All-nil (λ (x : X). P (f x))
 All-unmap {X} P f (x ∷ xs) all = All-cons (λ (x : X). P (f x)) x xs (All-head P (f x) (map f xs) all) (All-unmap P f xs (All-tail P (f x) (map f xs) all))
 
 -- few slots are few pointers with short keys
-pub AreSmall-slots : (held : Held) (references : List Reference) → IsSound held → length held.slots ≤ 1048576 → map (λ (reference : Reference). reference.key) references ≡ map (λ (slot : SlotRecord). slot.pointer.key) held.slots → AreSmall references
-AreSmall-slots held references sound few keys =
+pub AreSmall-slots : (held : Held) (references : List Reference) → IsSound held
+    → map (λ (reference : Reference). reference.key) references ≡ map (λ (slot : SlotRecord). slot.pointer.key) held.slots → AreSmall
+    references
+AreSmall-slots held references sound keys =
     let short : All (λ (key : Key). key.len ≤ 4096) (map (λ (slot : SlotRecord). slot.pointer.key) held.slots) =
     All-map (λ (key : Key). key.len ≤ 4096) (λ (slot : SlotRecord). slot.pointer.key) held.slots (short_keys held.sectors held.group held.slots sound.slots_within)
     in
     let same : length (map (λ (reference : Reference). reference.key) references) ≡ length (map (λ (slot : SlotRecord). slot.pointer.key) held.slots) = ap length keys in
     record {
-      few = omega (arith, few, same, length-keys (λ (reference : Reference). reference.key) references, length-keys (λ (slot : SlotRecord). slot.pointer.key) held.slots);
+      few =
+          omega (
+            arith,
+            few_slots held sound,
+            same,
+            length-keys (λ (reference : Reference). reference.key) references,
+            length-keys
+                (λ (slot : SlotRecord). slot.pointer.key) held.slots,
+          );
       short = All-unmap (λ (key : Key). key.len ≤ 4096) (λ (reference : Reference). reference.key) references (subst (All (λ (key : Key). key.len ≤ 4096)) (sym keys) short);
     }
 

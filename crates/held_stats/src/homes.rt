@@ -1,7 +1,5 @@
 ghost use Rattle.std.specs.Prelude.{◌≡◌};
-ghost use Rattle.pool_model.specs.Table.{entry_at, change_at, found_over, found};
-ghost use Rattle.table_state.specs.Flat.{AreRising};
-ghost use Rattle.table_state.specs.Tables.{AreChangesRising, IsTable};
+ghost use Rattle.pool_model.specs.Table.{entry_at, change_at, found_over, found, AreRising, AreChangesRising, IsTable};
 
 use ddt_entry::{Change, Entry, Home, Key, key_of};
 use plain_table::PlainTable;

@@ -11,4 +11,4 @@ mod homes;
 mod pool;
 mod slots;
 
-pub use pool::{are_few, stats_of_pool};
+pub use pool::stats_of_pool;

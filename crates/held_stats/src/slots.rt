@@ -1,8 +1,7 @@
 ghost use Rattle.std.specs.Prelude.{◌≡◌, IfOk, map};
-ghost use Rattle.pool_model.specs.Table.{found};
+ghost use Rattle.pool_model.specs.Table.{found, IsTable};
 ghost use Rattle.pool_stats.specs.References.{standing_of};
 ghost use Rattle.table_state.specs.Flat.{mark_by, mark_of};
-ghost use Rattle.table_state.specs.Tables.{IsTable};
 ghost use Rattle.held_stats.specs.Slots.{reference_in};
 
 use crate::homes::found;

@@ -14,10 +14,10 @@ use Rattle.pool_model.specs.Table.{entry_at}
 use Rattle.pool_model.specs.Command.{Course, home_at, or_in}
 use Rattle.pool_model.specs.Group.{Standing, opening_of}
 use Rattle.table_state.specs.Pools.{Held}
-use Rattle.held_laws.specs.Slots.{change_to}
-use Rattle.course_laws.proofs.Pointers.{filter_insert}
-use Rattle.course_laws.proofs.Homes.{left_by, home_now, left_by-later, home_now-later}
-use Rattle.course_laws.proofs.Steps.{home_of, home_of-known}
+use Rattle.table_state.specs.Slots.{change_to}
+use Rattle.pool_model.proofs.Pointers.{filter_insert}
+use Rattle.pool_model.proofs.Homes.{left_by, home_now, left_by-later, home_now-later}
+use Rattle.pool_model.proofs.Putting.{home_of, home_of-known}
 use Rattle.lane_run.specs.Live.{Live, is_change_at, or_below, home_here, put_home}
 use Rattle.lane_run.specs.Going.{IsCourse}
 use Rattle.lane_run.proofs.PutHomes.{entry_at-put_home}

@@ -20,11 +20,12 @@ use Rattle.pool_model.specs.Clash.{HasNoOther}
 use Rattle.pool_model.specs.Command.{Opening, Course, Known, Row, Spot, nowhere, at_home, at_fresh, row, home_at, or_in, last_tracked, known_home, known_or, known_in_table, home_row, table_row, verify_row, mode_row}
 use Rattle.pool_model.specs.Group.{Standing, opening_of}
 use Rattle.table_state.specs.Pools.{Held}
-use Rattle.table_laws.proofs.Waiting.{waiting_has}
-use Rattle.course_laws.proofs.Pointers.{all_from, first_has, tracks-key}
-use Rattle.course_laws.proofs.Homes.{home_now}
-use Rattle.course_laws.proofs.Steps.{left_of}
-use Rattle.lane_run.specs.Groups.{StandsOver}
+use Rattle.pool_model.proofs.Waiting.{waiting_has}
+use Rattle.pool_model.proofs.Pointers.{first_has, tracks-key}
+use Rattle.pool_model.proofs.Homes.{home_now}
+use Rattle.pool_model.proofs.Putting.{left_of}
+use Rattle.table_state.specs.Holding.{StandsOver}
+use Rattle.pool_model.proofs.Lists.{all_from}
 use Rattle.lane_run.specs.Live.{Live, home_here, sector_or, sector_here, known_by, first_mode, opening_over}
 use Rattle.lane_run.proofs.Places.{find_none, not_used}
 use Rattle.lane_run.proofs.Openings.{table_sorted, waiting_is_used}

@@ -9,73 +9,49 @@ use Rattle.ddt_entry.specs.declared.key.Key.{Key}
 use Rattle.ddt_entry.specs.declared.entry.Home.{Home}
 use Rattle.ddt_entry.specs.declared.entry.Entry.{Entry}
 use Rattle.ddt_entry.specs.declared.entry.Change.{Change}
-use Rattle.ddt_entry.specs.declared.entry.Change.TheVariants as changes
-use Rattle.ddt_entry.specs.Changes.{key_in}
 use Rattle.ddt_entry.specs.Records.{IsKeyLength}
 use Rattle.disk_model.specs.Images.{Image, sector_at}
 use Rattle.grant_book.specs.Sectors.{AreFirstFree}
 use Rattle.pool_model.specs.Pool.{Pool, Pointer, with_key, Pairwise, IsApart, IsWellFormed, run_length}
-use Rattle.pool_model.specs.Table.{TableState, Matches, found, sync_table, waiting_in, flush_limit, IsApartFrom}
+use Rattle.pool_model.specs.Table.{TableState, Matches, found, sync_table, waiting_in, flush_limit, IsApartFrom, IsTable, AreChangesRising}
 use Rattle.pool_model.specs.Plain.{Act, write, read, free, Task, Reply, Stored}
 use Rattle.pool_model.specs.Clash.{contents_in}
 use Rattle.pool_model.specs.Command.{Opening, Turn, Course, known_home}
-use Rattle.pool_model.specs.Group.{Standing, opening_of, IsFree, AreFresh, change_of, changes_of, change_from, settled, home_eq, block_or, blocks_after, after_lanes}
+use Rattle.pool_model.specs.Group.{Standing, opening_of, IsFree, AreFresh, change_of, changes_of, change_from, settled, block_or, blocks_after, after_lanes}
 use Rattle.pool_model.specs.Space.{need}
 use Rattle.uber_ring.specs.declared.seal.Seal.{Seal}
 use Rattle.table_state.specs.SealForms.{is_formed, has_size, has_flags, has_modes, has_checkpoint, fewest_sectors, most_sectors}
-use Rattle.table_state.specs.Tables.{IsTable, AreChangesRising}
 use Rattle.table_state.specs.Pools.{Held, slots_after, pool_after, with_blocks, block_sector}
 use Rattle.table_state.specs.declared.slot_record.SlotRecord.{SlotRecord}
 use Rattle.table_state.proofs.UsedLaws.{one_sector}
-use Rattle.txg_sync.specs.Syncing.{CanSync, IsNamed, group_pool, table_after}
-use Rattle.txg_sync.specs.Writing.{block_places}
-use Rattle.txg_sync.proofs.RoomLaws.{need_enough}
-use Rattle.held_laws.specs.Slots.{slot_of, refilled, refilled_pool}
-use Rattle.held_laws.proofs.BlocksOf.{beside_blocks, blocks_placed}
-use Rattle.held_laws.proofs.Refilled.{well_formed_refilled, matches_refilled, pool_refilled}
-use Rattle.held_laws.proofs.SoundOf.{pointer_lengths}
-use Rattle.held_laws.proofs.UnusedOf.{found_fresh}
-use Rattle.table_laws.specs.Homes.{GivesOwnChanges, found_with}
-use Rattle.table_laws.proofs.Lookups.{found_has}
-use Rattle.table_laws.proofs.Named.{named_rising, change_at-named}
-use Rattle.table_laws.proofs.Matching.{matches_synced}
-use Rattle.table_laws.proofs.Synced.{found-synced, there_stays}
-use Rattle.table_laws.proofs.Waiting.{waiting_has, waiting_found, waiting_synced}
-use Rattle.table_state.proofs.Syncing.{sync_keeps}
-use Rattle.run_laws.specs.Items.{IsIn, WaitingStays}
-use Rattle.run_laws.proofs.Clashes.{all_in}
-use Rattle.run_laws.proofs.Kept.{waiting_stays}
-use Rattle.course_laws.specs.ByKey.{IsUnnamedByKey, AreFreshByKey, ChangesByKey, MatchesByKey, home_after, IsWrite}
-use Rattle.course_laws.proofs.Pointers.{all_from}
-use Rattle.course_laws.proofs.Counts.{course_counts}
-use Rattle.course_laws.proofs.Aside.{before_opened}
-use Rattle.course_laws.proofs.Going.{IsGoing, going_all, going_matches}
-use Rattle.course_laws.proofs.Writing.{kept_formed, written_all, written_waits}
-use Rattle.lane_run.specs.Groups.{StandsOver, IsFirstWrite, WritesBlock}
+use Rattle.table_state.specs.Closing.{CanSync, IsNamed, block_places, pool_with, table_after}
+use Rattle.table_state.proofs.RoomLaws.{need_enough}
+use Rattle.table_state.specs.Slots.{slot_of, refilled, refilled_pool}
+use Rattle.table_state.proofs.BlocksOf.{beside_blocks, blocks_placed}
+use Rattle.table_state.proofs.Refilled.{well_formed_refilled, matches_refilled, pool_refilled}
+use Rattle.table_state.proofs.SoundOf.{pointer_lengths}
+use Rattle.table_state.proofs.UnusedOf.{found_fresh}
+use Rattle.pool_model.specs.Homes.{GivesOwnChanges, found_with}
+use Rattle.pool_model.proofs.Lookups.{found_has}
+use Rattle.pool_model.proofs.Named.{named_rising, change_at-named}
+use Rattle.pool_model.proofs.Matching.{matches_synced}
+use Rattle.pool_model.proofs.Synced.{found-synced, there_stays}
+use Rattle.pool_model.proofs.Waiting.{waiting_has, waiting_found, waiting_synced}
+use Rattle.pool_model.specs.Waiting.{IsIn, WaitingStays}
+use Rattle.pool_model.proofs.Kept.{waiting_stays}
+use Rattle.pool_model.specs.ByKey.{IsUnnamedByKey, AreFreshByKey, ChangesByKey, MatchesByKey, home_after, IsWrite}
+use Rattle.pool_model.proofs.Counts.{course_counts}
+use Rattle.pool_model.proofs.Aside.{before_opened}
+use Rattle.pool_model.proofs.Going.{IsGoing, going_all, going_matches}
+use Rattle.pool_model.proofs.Writing.{kept_formed, written_all, written_waits}
+use Rattle.table_state.specs.Holding.{StandsOver}
+use Rattle.lane_run.specs.Groups.{IsFirstWrite, WritesBlock}
+use Rattle.pool_model.proofs.Syncing.{sync_keeps}
+use Rattle.pool_model.proofs.Lists.{all_in, all_from}
 use Rattle.lane_run.specs.Going.{IsCourse, IsPlaced, Stands, Trusted, turns_from, first_course}
 use Rattle.lane_run.specs.Live.{Live, sector_or, sector_here, first_mode, changes_here, group_here}
+use Rattle.lane_run.proofs.InRange.{own_from}
 use Rattle.lane_run.proofs.Openings.{table_sorted, home_within, waiting_run, waiting_used, waiting_is_used, homes_match, formed, matches_by_key}
-
--- a change of a key is of that key
-own_from : (key : Key) (before now : Option Home) (change : Change) → change_from key before now ≡ Some change → key_in change ≡ key
-own_from key before None change is = absurd (cc is)
-own_from key None (Some home) change is = own_entry is
-  where
-    own_entry : Some (changes.Entry (record { key = key; home = home })) ≡ Some change → key_in change ≡ key
-    own_entry same = ap (λ (o : Option Change). key_or o) (sym same)
-      where
-        key_or : Option Change → Key
-        key_or None = key
-        key_or (Some c) = key_in c
-own_from key (Some was) (Some home) change is = by_test (home_eq was home) is
-  where
-    key_or : Option Change → Key
-    key_or None = key
-    key_or (Some c) = key_in c
-
-    by_test : (b : Bool) → cond b None (Some (changes.Entry (record { key = key; home = home }))) ≡ Some change → key_in change ≡ key
-    by_test true gives = absurd (cc gives)
-    by_test false gives = ap key_or (sym gives)
 
 writes_alone : (tasks : List Task) (replies : List Reply) → AllByRecursion IsFirstWrite tasks → AllByRecursion (λ turn. IsWrite turn.task.act) (turns_from tasks replies)
 writes_alone [] replies all = tt
@@ -159,16 +135,16 @@ module _ (key_of : List ℕ → Key) (image : Image) (held : Held) (s : Standing
   sorted : IsTable s.table
   sorted = table_sorted image held s over
 
-  pub fresh_given : AreFresh (IsFree held.sectors held.pages s) course.given
+  pub fresh_given : AreFresh (IsFree s) course.given
   fresh_given =
-      subst (λ (runs : List (ℕ × ℕ)). AreFresh (IsFree held.sectors held.pages s) runs) (sym (w.given_runs ∙ ap (map (λ x. (x, 1))) places_are))
-      (found_fresh image held s.pool s.table over.is_held s.blocks wanted places are_free (length live.contents))
+      subst (λ (runs : List (ℕ × ℕ)). AreFresh (IsFree s) runs) (sym (w.given_runs ∙ ap (map (λ x. (x, 1))) places_are))
+      (found_fresh image held s over wanted places are_free (length live.contents))
 
   fresh_by_key : AreFreshByKey (IsUnnamedByKey held.sectors s.pool (found s.table)) course.given
   fresh_by_key = record {
-    unnamed = all_from (λ (run : ℕ × ℕ). IsFree held.sectors held.pages s run.0 run.1) (λ (run : ℕ × ℕ). IsUnnamedByKey held.sectors s.pool (found s.table) run.0 run.1) (λ run is. record {
+    unnamed = all_from (λ (run : ℕ × ℕ). IsFree s run.0 run.1) (λ (run : ℕ × ℕ). IsUnnamedByKey held.sectors s.pool (found s.table) run.0 run.1) (λ run is. record {
       start = is.unnamed.start;
-      end = is.end;
+      end = omega (arith, is.end, over.sectors);
       no_pointer = is.unnamed.no_pointer;
       not_waiting = λ key home home_is zero. waiting_has (λ entry. IsApart run.0 run.1 entry.home.place (run_length entry.key)) s.table key home sorted home_is zero is.unnamed.not_waiting;
     }) course.given fresh_given.free;
@@ -222,7 +198,7 @@ module _ (key_of : List ℕ → Key) (image : Image) (held : Held) (s : Standing
   lens = all_from (IsPlaced held.used live.contents) (λ (p : Pointer). 0 < p.key.len) (λ p is. is.long) course.pool.pointers w.pointers
 
   -- the group's pool is that of the course, with its blocks' bytes
-  refilled_is : group_pool image held (group_here held live) ≡ refilled_pool (with_blocks live.contents image) after
+  refilled_is : pool_with image held (group_here held live) ≡ refilled_pool (with_blocks live.contents image) after
   refilled_is =
       (λ i. pool_after image live.contents (slots_after live.slots held.slots) (table_is i) (sym w.modes i) (sym w.quota i) (over.is_held.group_is i + 1))
       ∙ pool_refilled held.sectors after (sync_table (changes_of opening course) s.table) after_well after_matches.homes lens image live.contents (slots_after live.slots held.slots) course.pool.modes course.pool.quota (s.pool.group + 1) w.slots
@@ -234,14 +210,14 @@ module _ (key_of : List ℕ → Key) (image : Image) (held : Held) (s : Standing
   apart = places_differ live.contents (subst (Pairwise (λ (a b : ℕ × ℕ). IsApart a.0 a.1 b.0 b.1)) w.given_runs fresh_given.apart)
 
   inside : AllByRecursion (λ x. x.place < length image) live.contents
-  inside = each live.contents (subst (λ (runs : List (ℕ × ℕ)). AllByRecursion (λ (run : ℕ × ℕ). IsFree held.sectors held.pages s run.0 run.1) runs) w.given_runs fresh_given.free)
+  inside = each live.contents (subst (λ (runs : List (ℕ × ℕ)). AllByRecursion (λ (run : ℕ × ℕ). IsFree s run.0 run.1) runs) w.given_runs fresh_given.free)
     where
-      each : (cs : List Stored) → AllByRecursion (λ (run : ℕ × ℕ). IsFree held.sectors held.pages s run.0 run.1) (map (λ x. (x, 1)) (block_places cs)) → AllByRecursion (λ x. x.place < length image) cs
+      each : (cs : List Stored) → AllByRecursion (λ (run : ℕ × ℕ). IsFree s run.0 run.1) (map (λ x. (x, 1)) (block_places cs)) → AllByRecursion (λ x. x.place < length image) cs
       each [] all = tt
-      each (c ∷ cs) all = (omega (arith, all.0.end, on_image), each cs all.1)
+      each (c ∷ cs) all = (omega (arith, all.0.end, over.sectors, on_image), each cs all.1)
 
   -- where contents can be trusted, it is the course's
-  pub pool_stands : Trusted (first_mode held.modes) key_of s (contents_in tasks) → group_pool image held (group_here held live) ≡ after
+  pub pool_stands : Trusted (first_mode held.modes) key_of s (contents_in tasks) → pool_with image held (group_here held live) ≡ after
   pool_stands trusted =
       refilled_is
       ∙ ap (λ (ps : List Pointer). record after { pointers = ps })
@@ -267,7 +243,7 @@ module _ (key_of : List ℕ → Key) (image : Image) (held : Held) (s : Standing
     waiting_named = waiting_named;
     well_formed = subst (IsWellFormed held.sectors) (sym refilled_is) (well_formed_refilled (with_blocks live.contents image) held.sectors after after_well);
     matches =
-        subst (λ (t : TableState). Matches (group_pool image held (group_here held live)) t) (sym table_is)
+        subst (λ (t : TableState). Matches (pool_with image held (group_here held live)) t) (sym table_is)
         (subst (λ (p : Pool). Matches p (sync_table (changes_of opening course) s.table)) (sym refilled_is) (matches_refilled (with_blocks live.contents image) after (sync_table (changes_of opening course) s.table) after_matches));
     room =
         need_enough image held s.pool s.table (group_here held live) (length tasks) (length tasks) over.is_held few
@@ -296,9 +272,9 @@ module _ (key_of : List ℕ → Key) (image : Image) (held : Held) (s : Standing
       )
 
   -- no home begins to wait, and those that wait keep their bytes
-  pub stays_waiting : WaitingStays s (after_lanes opening s course)
+  pub stays_waiting : WaitingStays s (after_lanes opening s course [])
   stays_waiting =
-      waiting_stays s (after_lanes opening s course) (waiting_found (sync_table (changes_of opening course) s.table) (sync_keeps (changes_of opening course) s.table sorted))
+      waiting_stays s (after_lanes opening s course []) (waiting_found (sync_table (changes_of opening course) s.table) (sync_keeps (changes_of opening course) s.table sorted))
       (λ key home is zero.
       let before : found_with (changes_of opening course) s.table key ≡ Some home = there_stays (found_with (changes_of opening course) s.table key) (found (sync_table (changes_of opening course) s.table) key) home (found-synced (changes_of opening course) s.table key sorted rising) is in
       let was : found s.table key ≡ Some home = waited_before key home before zero in

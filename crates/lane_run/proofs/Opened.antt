@@ -9,22 +9,22 @@ use Rattle.ddt_entry.specs.declared.entry.Entry.{Entry}
 use Rattle.ddt_entry.specs.Records.{IsKeyLength}
 use Rattle.disk_model.specs.Images.{Image}
 use Rattle.pool_model.specs.Pool.{Pool, Pointer, LiesWithin, IsApart, run_length, is_at, tracks, keys_in}
-use Rattle.pool_model.specs.Table.{TableState, found}
+use Rattle.pool_model.specs.Table.{TableState, found, counted_homes}
 use Rattle.pool_model.specs.Group.{Standing, opening_of, opened}
-use Rattle.table_state.specs.Flat.{counted_homes, pointer_of, table_in}
+use Rattle.pool_model.specs.Waiting.{IsIn}
+use Rattle.table_state.specs.Flat.{pointer_of, table_in}
 use Rattle.table_state.specs.Pools.{Held, is_slot_at}
 use Rattle.table_state.specs.declared.slot_record.SlotRecord.{SlotRecord}
 use Rattle.table_state.proofs.UsedLaws.{one_sector}
-use Rattle.held_laws.specs.Slots.{slot_of}
-use Rattle.held_laws.proofs.Members.{In, each_in, at_in}
-use Rattle.held_laws.proofs.SlotsOf.{held_slots}
-use Rattle.held_laws.proofs.SoundOf.{pointer_lengths}
-use Rattle.held_laws.proofs.UnusedOf.{unused_free}
-use Rattle.table_laws.proofs.Keys.{keys_are_counted_homes}
-use Rattle.course_laws.proofs.Pointers.{all_from_both}
-use Rattle.course_laws.proofs.Homes.{matched_home}
-use Rattle.course_laws.proofs.Steps.{home_of-known}
-use Rattle.lane_run.specs.Groups.{StandsOver}
+use Rattle.table_state.specs.Slots.{slot_of}
+use Rattle.table_state.proofs.SlotsOf.{held_slots}
+use Rattle.table_state.proofs.SoundOf.{pointer_lengths}
+use Rattle.table_state.proofs.UnusedOf.{unused_free}
+use Rattle.pool_model.proofs.Keys.{keys_are_counted_homes}
+use Rattle.pool_model.proofs.Homes.{matched_home}
+use Rattle.pool_model.proofs.Putting.{home_of-known}
+use Rattle.table_state.specs.Holding.{StandsOver}
+use Rattle.pool_model.proofs.Lists.{all_from_both, all_in, all_at}
 use Rattle.lane_run.specs.Going.{IsCourse, IsPlaced, Stands}
 use Rattle.lane_run.specs.Live.{Live}
 use Rattle.lane_run.proofs.Places.{used_either}
@@ -43,14 +43,14 @@ module _ (image : Image) (held : Held) (s : Standing) (over : StandsOver image h
   lens = pointer_lengths image held s.pool s.table over.is_held
 
   -- a pointer's sector is used
-  pointer_used : (p : Pointer) → In p s.pool.pointers → LiesWithin held.sectors s.pool.group p → IsKeyLength p.key.len → slice_index_or held.used p.place false ≡ true
+  pointer_used : (p : Pointer) → IsIn p s.pool.pointers → LiesWithin held.sectors s.pool.group p → IsKeyLength p.key.len → slice_index_or held.used p.place false ≡ true
   pointer_used p here lies len = sym (used_either held.used p.place (omega (arith, used_length image held s over, lies.end, one_sector p.key len))) ∙ by_note (slice_index_or held.used p.place true) refl
     where
       by_note : (b : Bool) → slice_index_or held.used p.place true ≡ b → b ≡ true
       by_note true noted = refl
       by_note false noted =
-          let is_free = unused_free image held s.pool s.table over.is_held s.blocks p.place noted in
-          let apart : IsApart p.place 1 p.place (run_length p.key) = at_in (λ (q : Pointer). IsApart p.place 1 q.place (run_length q.key)) p s.pool.pointers here is_free.unnamed.no_pointer in
+          let is_free = unused_free image held s over p.place noted in
+          let apart : IsApart p.place 1 p.place (run_length p.key) = all_at (λ (q : Pointer). IsApart p.place 1 q.place (run_length q.key)) p s.pool.pointers here is_free.unnamed.no_pointer in
           absurd (⊎_elim (λ before. omega (arith, before)) (λ behind. omega (arith, behind, one_sector p.key len)) apart)
 
   abbrev Facts : Pointer → Type 0
@@ -58,7 +58,7 @@ module _ (image : Image) (held : Held) (s : Standing) (over : StandsOver image h
 
   all_placed : AllByRecursion (IsPlaced held.used []) s.pool.pointers
   all_placed =
-      all_from_both (λ (p : Pointer). In p s.pool.pointers) Facts (IsPlaced held.used []) (λ p here facts. record { named = inl (pointer_used p here facts.0 facts.1); long = facts.1.0 }) s.pool.pointers (each_in s.pool.pointers)
+      all_from_both (λ (p : Pointer). IsIn p s.pool.pointers) Facts (IsPlaced held.used []) (λ p here facts. record { named = inl (pointer_used p here facts.0 facts.1); long = facts.1.0 }) s.pool.pointers (all_in s.pool.pointers)
       (all_from_both (LiesWithin held.sectors s.pool.group) (λ (p : Pointer). IsKeyLength p.key.len) Facts (λ p a b. (a, b)) s.pool.pointers (formed image held s over).within lens)
 
   all_stand : AllByRecursion (Stands image []) s.pool.pointers

@@ -1,5 +1,5 @@
 -- What holds of a pool in memory when a group opens on it: the homes that its table finds, and that those that wait have a place that is used.
-use Rattle.std.proofs.Common.{◌≡◌, ℕ, ◌<◌, ◌≤◌, Bool, true, false, List, [], ◌∷◌, length, Some, None, Option, refl, sym, subst, ◌∙◌, arith, ⊎_elim}
+use Rattle.std.proofs.Common.{◌≡◌, ℕ, ◌^◌, ◌<◌, ◌≤◌, Bool, true, false, List, [], ◌∷◌, length, Some, None, Option, refl, sym, subst, ◌∙◌, arith, ⊎_elim}
 use Rattle.std.specs.Prelude.{slice_index_or}
 use Rattle.std.specs.List.{AllByRecursion, find}
 use Rattle.std.specs.Option.{option_map}
@@ -12,21 +12,21 @@ use Rattle.ddt_entry.specs.Keys.{key_eq}
 use Rattle.ddt_entry.specs.Changes.{key_in}
 use Rattle.disk_model.specs.Images.{Image}
 use Rattle.pool_model.specs.Pool.{IsApart, run_length, IsWellFormed}
-use Rattle.pool_model.specs.Table.{TableState, found, found_over, home_in, change_at, entry_at}
+use Rattle.pool_model.specs.Table.{TableState, found, found_over, home_in, change_at, entry_at, IsTable}
 use Rattle.pool_model.specs.Group.{Standing}
 use Rattle.table_state.specs.Flat.{IsWithin, IsChangeWithin}
-use Rattle.table_state.specs.Tables.{IsTable, IsTableWithin}
+use Rattle.table_state.specs.Tables.{IsTableWithin}
 use Rattle.table_state.specs.Pools.{Held}
 use Rattle.table_state.specs.Sound.{IsSound, HasKeyLengths}
 use Rattle.table_state.proofs.TableBack.{is_table_in}
 use Rattle.table_state.proofs.UsedLaws.{waiting_runs}
-use Rattle.held_laws.proofs.SoundOf.{held_sound}
-use Rattle.held_laws.proofs.UnusedOf.{unused_free}
-use Rattle.table_laws.specs.Homes.{HomesMatch}
-use Rattle.table_laws.proofs.Waiting.{waiting_has}
-use Rattle.table_laws.proofs.Matching.{matches_read}
-use Rattle.course_laws.specs.ByKey.{MatchesByKey}
-use Rattle.lane_run.specs.Groups.{StandsOver}
+use Rattle.table_state.proofs.SoundOf.{held_sound}
+use Rattle.table_state.proofs.UnusedOf.{unused_free}
+use Rattle.pool_model.specs.Homes.{HomesMatch}
+use Rattle.pool_model.proofs.Waiting.{waiting_has}
+use Rattle.pool_model.proofs.Matching.{matches_read}
+use Rattle.pool_model.specs.ByKey.{MatchesByKey}
+use Rattle.table_state.specs.Holding.{StandsOver}
 use Rattle.lane_run.proofs.Places.{used_either}
 use Rattle.lane_run.proofs.Stored.{found_has}
 
@@ -34,7 +34,9 @@ use Rattle.lane_run.proofs.Stored.{found_has}
 pub record IsHomeWithin (sectors group : ℕ) (home : Home) : Type 0 where
   pub start : 32 ≤ home.place
   pub end : home.place < sectors
+  pub born : 1 ≤ home.birth
   pub birth : home.birth ≤ group
+  pub since : home.since < 2 ^ 40
   pub count : home.count ≤ 1048576
 
 -- ---- What is found is in the lists
@@ -68,7 +70,7 @@ found_within sectors group table key home within is =
     (logged table.active within.active) is
   where
     of_entry : (entry : Entry) → IsWithin sectors group entry → IsHomeWithin sectors group entry.home
-    of_entry entry w = record { start = w.place; end = w.on_disk; birth = w.birth; count = w.count }
+    of_entry entry w = record { start = w.place; end = w.on_disk; born = w.born; birth = w.birth; since = w.since; count = w.count }
 
     entries : (es : List Entry) → AllByRecursion (IsWithin sectors group) es → AllByRecursion (λ e. IsHomeWithin sectors group e.home) es
     entries [] all = tt
@@ -105,7 +107,7 @@ module _ (image : Image) (held : Held) (s : Standing) (over : StandsOver image h
       by_note : (b : Bool) → slice_index_or held.used home.place true ≡ b → b ≡ true
       by_note true noted = refl
       by_note false noted =
-          let is_free = unused_free image held s.pool s.table over.is_held s.blocks home.place noted in
+          let is_free = unused_free image held s over home.place noted in
           let apart : IsApart home.place 1 home.place (run_length key) = waiting_has (λ entry. IsApart home.place 1 entry.home.place (run_length entry.key)) s.table key home table_sorted is zero is_free.unnamed.not_waiting in
           absurd (⊎_elim (λ before. omega (arith, before)) (λ behind. omega (arith, behind, waiting_run key home is zero)) apart)
 

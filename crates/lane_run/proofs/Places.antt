@@ -4,7 +4,7 @@ use Rattle.std.specs.Prelude.{slice_index_or}
 use Rattle.std.specs.List.{AllByRecursion, find, list_any}
 use Rattle.std.proofs.lemmas.Bool.{ne_eqb}
 use Rattle.pool_model.specs.Plain.{Stored}
-use Rattle.txg_sync.specs.Syncing.{IsNamed}
+use Rattle.table_state.specs.Closing.{IsNamed}
 
 -- one that fails changes nothing of what is found
 pub find_beside : {X : Type 0} (test : X → Bool) (xs : List X) (x : X) → test x ≡ false → find test (xs ++ x ∷ []) ≡ find test xs

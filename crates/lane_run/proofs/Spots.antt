@@ -17,17 +17,17 @@ use Rattle.pool_model.specs.Clash.{HasNoOther, NoOther}
 use Rattle.pool_model.specs.Command.{Course, home_at, or_in, last_tracked, at_home, at_fresh, pointer_at, placed, naming, replied, next_fresh, take_fresh}
 use Rattle.pool_model.specs.Group.{Standing, opening_of}
 use Rattle.table_state.specs.Pools.{Held, is_slot_at, slots_after, set_slot, block_sector}
-use Rattle.txg_sync.specs.Syncing.{IsNamed}
-use Rattle.txg_sync.specs.Writing.{block_places}
-use Rattle.held_laws.specs.Slots.{slot_of, change_to}
-use Rattle.held_laws.proofs.SlotsOf.{slot_set, change_behind}
-use Rattle.held_laws.proofs.BlocksOf.{block_cut}
-use Rattle.table_laws.proofs.Keys.{keys_in-untracked, length-keys_in_new, keys_in-counted}
-use Rattle.course_laws.proofs.Pointers.{all_insert, all_from, all_from_both, none_insert, first_has}
-use Rattle.course_laws.proofs.Homes.{left_by, home_now, none_now, uncounted_zero}
-use Rattle.course_laws.proofs.Rows.{FitsHome, FitsFresh, outside, first}
-use Rattle.course_laws.proofs.Steps.{left_of, home_of, home_of-known}
-use Rattle.lane_run.specs.Groups.{StandsOver}
+use Rattle.table_state.specs.Closing.{IsNamed, block_places}
+use Rattle.table_state.specs.Slots.{slot_of, change_to}
+use Rattle.table_state.proofs.SlotsOf.{slot_set, change_behind}
+use Rattle.table_state.proofs.BlocksOf.{block_cut}
+use Rattle.pool_model.proofs.Keys.{keys_in-untracked, length-keys_in_new, keys_in-counted}
+use Rattle.pool_model.proofs.Pointers.{all_insert, none_insert, first_has}
+use Rattle.pool_model.proofs.Homes.{left_by, home_now, none_now, uncounted_zero}
+use Rattle.pool_model.proofs.Rows.{FitsHome, FitsFresh, outside, first}
+use Rattle.pool_model.proofs.Putting.{left_of, home_of, home_of-known}
+use Rattle.table_state.specs.Holding.{StandsOver}
+use Rattle.pool_model.proofs.Lists.{all_from, all_from_both}
 use Rattle.lane_run.specs.Live.{Live, home_here, sector_or, sector_here, first_mode, put_home, write_of, shared, with_first, put_at, noted}
 use Rattle.lane_run.proofs.Places.{IsNew, new_elsewhere, named_more, find_beside, find_new, any_last, all_more}
 use Rattle.lane_run.proofs.Openings.{waiting_is_used, homes_match}

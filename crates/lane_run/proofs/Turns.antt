@@ -15,9 +15,9 @@ use Rattle.pool_model.specs.Clash.{HasNoOther}
 use Rattle.pool_model.specs.Command.{Turn, Course, Known, Row, Spot, nowhere, at_home, at_fresh, row, known_home, slot_row, verify_row, mode_row, write_row, is_fault, allows, uses_table, placed, naming, replied, after}
 use Rattle.pool_model.specs.Group.{Standing, opening_of}
 use Rattle.table_state.specs.Pools.{Held}
-use Rattle.course_laws.proofs.Rows.{SpotFits, FitsHome, FitsFresh, row_fits}
-use Rattle.course_laws.proofs.Steps.{home_of, home_of-known}
-use Rattle.lane_run.specs.Groups.{StandsOver}
+use Rattle.pool_model.proofs.Rows.{SpotFits, FitsHome, FitsFresh, row_fits}
+use Rattle.pool_model.proofs.Putting.{home_of, home_of-known}
+use Rattle.table_state.specs.Holding.{StandsOver}
 use Rattle.lane_run.specs.Live.{Live, is_taken, home_here, sector_here, known_by, first_mode, mode_here, row_here, write_of, put_at, after_row}
 use Rattle.lane_run.proofs.Places.{IsNew}
 use Rattle.lane_run.specs.Going.{Trusted, IsCourse}

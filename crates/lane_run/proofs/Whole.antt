@@ -1,10 +1,11 @@
 -- A whole group: its note is that of the definitions' run, and what it leaves can be synced.
 use Rattle.std.proofs.Common.{◌≡◌, ℕ, ◌+◌, ◌<◌, ◌≤◌, ◌==◌, Bool, true, false, cond, nat_lt, List, [], ◌∷◌, length, filter, map, replicate, Some, None, Option, refl, sym, ap, subst, zero, suc, ◌∙◌, arith, add-one, append-nil}
 use Rattle.std.specs.Prelude.{if◌then◌else◌, not, Result, Ok, Err, IsErrOf}
-use Rattle.std.specs.List.{AllByRecursion, count_by, range_with_len}
+use Rattle.std.specs.List.{AllByRecursion, count_by, flat_map, range_with_len}
 use Rattle.std.proofs.lemmas.List.Sums.{sum_by-cons}
 use Rattle.std.proofs.lemmas.Bool.{lt-ltb, ne_eqb}
 use Rattle.std.proofs.lemmas.Bool.Decides.{nat_tests}
+use Rattle.ddt_entry.specs.Keys.{Keying}
 use Rattle.ddt_entry.specs.declared.key.Key.{Key}
 use Rattle.disk_model.specs.Images.{Image, Stays}
 use Rattle.pool_model.specs.declared.faults.GroupFault.{GroupFault}
@@ -20,15 +21,16 @@ use Rattle.pool_model.specs.Space.{need, space_lacking, changes_in, writes_in, i
 use Rattle.pool_model.specs.Table.{flush_limit}
 use Rattle.pool_model.specs.Clash.{HasNoOther, contents_in, is_on}
 use Rattle.pool_model.specs.Command.{Turn, Course, is_fault}
-use Rattle.pool_model.specs.Group.{Standing, opening_of, course_of, tasks_of, lanes_of, lane_by_lane, fresh_of, HasEachLane, Agrees, AreFresh, IsFree, after_lanes}
+use Rattle.pool_model.specs.Group.{Standing, opening_of, course_of, tasks_of, lanes_of, turns_of, lanes_in_turn, lane_by_lane, fresh_of, HasEachLane, Agrees, AreFresh, IsFree, after_lanes}
 use Rattle.pool_model.specs.Run.{noted_course, AnswersAsRun, sealed_standing}
 use Rattle.table_state.specs.Pools.{Held}
-use Rattle.txg_sync.specs.Writing.{block_places}
-use Rattle.lane_run.specs.Groups.{StandsOver, IsFirstWrite, WritesBlock, HasNoClash, KeepsWaiting, IsRunFrom}
+use Rattle.table_state.specs.Closing.{block_places}
+use Rattle.table_state.specs.Holding.{StandsOver}
+use Rattle.lane_run.specs.Groups.{IsFirstWrite, WritesBlock, HasNoClash, KeepsWaiting, IsRunFrom}
 use Rattle.lane_run.specs.Going.{IsCourse, Trusted, turns_from, first_course, HasRun, HasRunOver, Opens, lanes_here}
 use Rattle.lane_run.specs.Live.{Live, first_mode, group_here}
 use Rattle.lane_run.proofs.Leaving.{fresh_given, table_is, pool_stands, can_sync, keeps_waiting, stays_waiting}
-use Rattle.run_laws.specs.Items.{WaitingStays}
+use Rattle.pool_model.specs.Waiting.{WaitingStays}
 
 -- ---- Lane 0 alone
 
@@ -121,19 +123,19 @@ trusted_by On key_of s moment tasks mode all clash = subst (AllByRecursion (HasN
 
 -- ---- The note
 
-module _ (key_of : List ℕ → Key) (image : Image) (held : Held) (s : Standing) (over : StandsOver image held s) (moment : ℕ) (tasks : List Task) (firsts : AllByRecursion IsFirstWrite tasks) (places : List ℕ) (are_free : AreFirstFree held.used (length tasks) places) (live : Live)
-    (told : Option Image) (faults : ℕ) (has : HasRun told key_of held moment tasks places 0 faults live) (told_is : told ≡ Some image) (few : length tasks ≤ 65536) (note : Told) (note_is : note.lanes ≡ lanes_here tasks live.replies (block_places live.contents) faults)
+module _ (keying : Keying) (image : Image) (held : Held) (s : Standing) (over : StandsOver image held s) (moment : ℕ) (tasks : List Task) (firsts : AllByRecursion IsFirstWrite tasks) (places : List ℕ) (are_free : AreFirstFree held.used (length tasks) places) (live : Live)
+    (told : Option Image) (faults : ℕ) (has : HasRun told keying.key_of held moment tasks places 0 faults live) (told_is : told ≡ Some image) (few : length tasks ≤ 65536) (note : Told) (note_is : note.lanes ≡ lanes_here tasks live.replies (block_places live.contents) faults)
     (room : space_lacking (count_by not held.used) (need (length held.pages) (flush_limit held.table) (changes_in tasks) (writes_in tasks)) ≡ None) where
-  abbrev w : IsCourse key_of image held s moment (contents_in tasks) live [] (first_course key_of s moment (block_places live.contents) (turns_from tasks live.replies))
+  abbrev w : IsCourse keying.key_of image held s moment (contents_in tasks) live [] (first_course keying.key_of s moment (block_places live.contents) (turns_from tasks live.replies))
   w = has.course image s told_is over
 
   abbrev course : Course
-  course = first_course key_of s moment (block_places live.contents) (turns_from tasks live.replies)
+  course = first_course keying.key_of s moment (block_places live.contents) (turns_from tasks live.replies)
 
   -- by whether there are commands
   pub record IsNoted : Type 0 where
-    pub order : lane_by_lane tasks note.lanes ≡ turns_from tasks live.replies
-    pub course_is : noted_course lane_by_lane key_of s moment tasks note ≡ course
+    pub order : lane_by_lane tasks note ≡ turns_from tasks live.replies
+    pub course_is : noted_course (lanes_in_turn keying) s moment tasks note ≡ course
     pub lanes : HasEachLane tasks note.lanes
 
   noted : (ts : List Task) → tasks ≡ ts → IsNoted
@@ -142,22 +144,22 @@ module _ (key_of : List ℕ → Key) (image : Image) (held : Held) (s : Standing
       let no_tasks : length tasks ≡ 0 = ap length none in
       let no_blocks : block_places live.contents ≡ [] = ap block_places (no_items live.contents (omega (arith, has.blocks_few, no_tasks))) in
       let turns_none : turns_from tasks live.replies ≡ [] = ap (λ ts. turns_from ts live.replies) none in
-      let order : lane_by_lane tasks note.lanes ≡ turns_from tasks live.replies = ap (lane_by_lane tasks) lanes_are ∙ sym turns_none in
+      let order : lane_by_lane tasks note ≡ turns_from tasks live.replies = ap (flat_map (turns_of tasks)) lanes_are ∙ sym turns_none in
       record {
         order = order;
-        course_is = (λ i. course_of (opening_of key_of s moment) s.pool (fresh_of (lanes_are i)) (order i)) ∙ (λ i. course_of (opening_of key_of s moment) s.pool (sym no_blocks i ∷ replicate 15 []) (turns_from tasks live.replies));
+        course_is = (λ i. course_of (opening_of keying.key_of s moment) s.pool (fresh_of (lanes_are i)) (order i)) ∙ (λ i. course_of (opening_of keying.key_of s moment) s.pool (sym no_blocks i ∷ replicate 15 []) (turns_from tasks live.replies));
         lanes = subst (HasEachLane tasks) (sym lanes_are) (subst (λ ts. HasEachLane ts []) (sym none) (record { lanes = refl; replies = tt; faults = tt }));
       }
   noted (t ∷ ts) some =
       let lanes_are : note.lanes ≡ record { lane = 0; replies = live.replies; fresh = block_places live.contents; faults = faults } ∷ [] = note_is ∙ ap (λ xs. lanes_here xs live.replies (block_places live.contents) faults) some in
       let whole : tasks_of 0 tasks ≡ tasks = tasks_of-first tasks firsts in
       let longer : length tasks ≡ suc (length ts) = ap length some in
-      let order : lane_by_lane tasks note.lanes ≡ turns_from tasks live.replies =
-      ap (lane_by_lane tasks) lanes_are ∙ append-nil (turns_from (tasks_of 0 tasks) live.replies) ∙ ap (λ xs. turns_from xs live.replies) whole in
+      let order : lane_by_lane tasks note ≡ turns_from tasks live.replies =
+      ap (flat_map (turns_of tasks)) lanes_are ∙ append-nil (turns_from (tasks_of 0 tasks) live.replies) ∙ ap (λ xs. turns_from xs live.replies) whole in
       let counted : count_by is_fault live.replies ≤ faults = omega (arith, has.counts, faults_few live.replies, has.each, few) in
       record {
         order = order;
-        course_is = λ i. course_of (opening_of key_of s moment) s.pool (fresh_of (lanes_are i)) (order i);
+        course_is = λ i. course_of (opening_of keying.key_of s moment) s.pool (fresh_of (lanes_are i)) (order i);
         lanes = subst (HasEachLane tasks) (sym lanes_are) (record { lanes = sym (lanes_of-first tasks firsts (omega (arith, longer))); replies = (has.each ∙ sym (ap length whole), tt); faults = (counted, tt) });
       }
 
@@ -167,14 +169,14 @@ module _ (key_of : List ℕ → Key) (image : Image) (held : Held) (s : Standing
   agrees : Agrees course (turns_from tasks live.replies)
   agrees = record { replies = w.told ∙ sym (replies_of-turns tasks live.replies has.each); fresh = subst (AllByRecursion (λ places. places ≡ [])) (sym w.fresh) (refl, empties 15) }
 
-  answers : AnswersAsRun lane_by_lane key_of s moment tasks note
+  answers : AnswersAsRun (lanes_in_turn keying) s moment tasks note
   answers = record {
     lanes = is_noted.lanes;
-    agrees = subst (λ (c : Course). Agrees c (lane_by_lane tasks note.lanes)) (sym is_noted.course_is) (subst (Agrees course) (sym is_noted.order) agrees);
+    agrees = subst (λ (c : Course). Agrees c (lane_by_lane tasks note)) (sym is_noted.course_is) (subst (Agrees course) (sym is_noted.order) agrees);
   }
 
-  as_sealed : (sealed_standing lane_by_lane key_of s (lanes moment tasks) note) ≡ after_lanes (opening_of key_of s moment) s course
-  as_sealed = ap (after_lanes (opening_of key_of s moment) s) is_noted.course_is
+  as_sealed : sealed_standing (lanes_in_turn keying) s (lanes moment tasks) note [] ≡ after_lanes (opening_of keying.key_of s moment) s course []
+  as_sealed = ap (λ (c : Course). after_lanes (opening_of keying.key_of s moment) s c []) is_noted.course_is
 
   enough : need (length held.pages) (flush_limit held.table) (length tasks) (length tasks) ≤ count_by not held.used
   enough =
@@ -184,18 +186,18 @@ module _ (key_of : List ℕ → Key) (image : Image) (held : Held) (s : Standing
       not_lacking left needed none =
           elim (nat_lt left needed) as (λ b. (nat_lt left needed ≡ b) → (if b then Some (NoSpace needed left) else None) ≡ None → needed ≤ left) [ true ↦ λ _ bad. absurd (cc bad) | false ↦ λ no _. grind (arith, nat_tests, no) ] refl none
 
-  pub run_from : IsRunFrom key_of image held s moment tasks note (group_here held live)
+  pub run_from : IsRunFrom (lanes_in_turn keying) image held s moment tasks note (group_here held live)
   run_from = record {
     answers = answers;
-    fresh = subst (λ (c : Course). AreFresh (IsFree held.sectors held.pages s) c.given) (sym is_noted.course_is) (fresh_given key_of image held s over moment tasks firsts (length tasks) places are_free live has.places_are w);
-    can_sync = can_sync key_of image held s over moment tasks firsts (length tasks) places are_free live has.places_are w has.slots_few has.blocks_few enough;
-    table_is = table_is key_of image held s over moment tasks firsts (length tasks) places are_free live has.places_are w ∙ sym (ap (λ (x : Standing). x.table) as_sealed);
+    fresh = subst (λ (c : Course). AreFresh (IsFree s) c.given) (sym is_noted.course_is) (fresh_given keying.key_of image held s over moment tasks firsts (length tasks) places are_free live has.places_are w);
+    can_sync = can_sync keying.key_of image held s over moment tasks firsts (length tasks) places are_free live has.places_are w has.slots_few has.blocks_few enough;
+    table_is = table_is keying.key_of image held s over moment tasks firsts (length tasks) places are_free live has.places_are w ∙ sym (ap (λ (x : Standing). x.table) as_sealed);
     pool_is = λ clash.
-        pool_stands key_of image held s over moment tasks firsts (length tasks) places are_free live has.places_are w
-        (trusted_by (first_mode held.modes) key_of s moment tasks (ap first_mode (sym over.is_held.modes_are)) firsts clash)
+        pool_stands keying.key_of image held s over moment tasks firsts (length tasks) places are_free live has.places_are w
+        (trusted_by (first_mode held.modes) keying.key_of s moment tasks (ap first_mode (sym over.is_held.modes_are)) firsts clash)
         ∙ sym (ap (λ (x : Standing). x.pool) as_sealed);
-    waiting = subst (KeepsWaiting image held) (sym as_sealed) (keeps_waiting key_of image held s over moment tasks firsts (length tasks) places are_free live has.places_are w);
-    waiting_stays = subst (WaitingStays s) (sym as_sealed) (stays_waiting key_of image held s over moment tasks firsts (length tasks) places are_free live has.places_are w);
+    waiting = subst (KeepsWaiting image held) (sym as_sealed) (keeps_waiting keying.key_of image held s over moment tasks firsts (length tasks) places are_free live has.places_are w);
+    waiting_stays = subst (WaitingStays s) (sym as_sealed) (stays_waiting keying.key_of image held s over moment tasks firsts (length tasks) places are_free live has.places_are w);
   }
 
 -- what a group of writes needs, by its commands or by their number

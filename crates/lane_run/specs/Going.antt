@@ -19,10 +19,9 @@ use Rattle.pool_model.specs.Clash.{HasNoOther, contents_in}
 use Rattle.pool_model.specs.Command.{Opening, Turn, Course, known_home, last_tracked, is_fault}
 use Rattle.pool_model.specs.Group.{Standing, opening_of, course_of}
 use Rattle.table_state.specs.Pools.{Held, slots_after}
-use Rattle.txg_sync.specs.Syncing.{IsNamed}
-use Rattle.txg_sync.specs.Writing.{block_places}
-use Rattle.held_laws.specs.Slots.{slot_of}
-use Rattle.lane_run.specs.Groups.{StandsOver}
+use Rattle.table_state.specs.Closing.{IsNamed, block_places}
+use Rattle.table_state.specs.Slots.{slot_of}
+use Rattle.table_state.specs.Holding.{StandsOver}
 use Rattle.lane_run.specs.Live.{Live, is_taken, home_here, sector_here, first_mode}
 
 -- the home that a course knows of a key

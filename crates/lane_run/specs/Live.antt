@@ -1,7 +1,8 @@
 -- A group of writes of lane 0 as far as it has come, beside the pool as the newest sealed group left it: what one write makes of it.
-use Rattle.std.specs.Prelude.{◌≡◌, ℕ, ◌+◌, ◌-◌, ◌^◌, ◌<◌, ◌≤◌, min, ⊤, Bool, ◌&&◌, ◌||◌, ◌==◌, List, [], ◌∷◌, ◌++◌, take, fold, length, Option, Some, None, unwrap_or, slice_get, if◌then◌else◌}
+use Rattle.std.specs.Prelude.{◌≡◌, ◌⊎◌, ℕ, ◌+◌, ◌-◌, ◌^◌, ◌<◌, ◌≤◌, min, ⊤, Bool, true, ◌&&◌, ◌||◌, ◌==◌, List, [], ◌∷◌, ◌++◌, take, fold, length, Option, Some, None, unwrap_or, slice_get, if◌then◌else◌}
 use Rattle.std.specs.List.{AllByRecursion, count_by, find, filter_map, list_any}
 use Rattle.ddt_entry.specs.Keys.{key_eq}
+use Rattle.ddt_entry.specs.Records.{KeyFits}
 use Rattle.ddt_entry.specs.declared.key.Key.{Key}
 use Rattle.ddt_entry.specs.declared.entry.Home.{Home}
 use Rattle.ddt_entry.specs.declared.entry.Entry.{Entry}
@@ -18,8 +19,8 @@ use Rattle.pool_model.specs.Table.{TableState, found, entry_at}
 use Rattle.pool_model.specs.Command.{Opening, Known, Spot, nowhere, at_home, at_fresh, Row, row, mode_row, allows, is_fault, uses_table, pointer_at}
 use Rattle.pool_model.specs.Group.{settled, change_from}
 use Rattle.table_state.specs.Pools.{Held, is_slot_at, block_sector}
-use Rattle.txg_sync.specs.Planning.{Group}
-use Rattle.held_laws.specs.Slots.{change_to}
+use Rattle.table_state.specs.Closing.{PlainClosed}
+use Rattle.table_state.specs.Slots.{change_to}
 
 -- what a group has come to: the changes of the slots, the blocks that it stored, the homes that it made or changed, the keys that it named, how many keys are counted, and the replies
 pub record Live : Type 0 where
@@ -145,6 +146,12 @@ IsHomeOf now nowhere = ⊤
 IsHomeOf now (at_home home mark) = now ≡ Some home
 IsHomeOf now (at_fresh mark) = ⊤
 
+-- the table counts a pointer at a home since this moment or since the home's, and one at a fresh place since none that is later
+abbrev pub IsSince : (moment : ℕ) → Spot → Type 0
+IsSince moment nowhere = ⊤
+IsSince moment (at_home home mark) = (since_of mark ≡ moment) ⊎ (since_of mark ≡ home.since)
+IsSince moment (at_fresh mark) = since_of mark ≤ moment
+
 -- a count of faulty reads that went up where the answer is a fault, unless it stands at its end
 abbrev pub CountsFault : (before now : ℕ) → WriteAnswer → Type 0
 CountsFault before now answer = min (before + count_by is_fault (to_write answer ∷ [])) (2 ^ 64 - 1) ≤ now
@@ -154,6 +161,9 @@ pub record IsWritten (told : Option Image) (key_of : List ℕ → Key) (held : H
   pub chosen : Row
   pub is_chosen : IsChosen told key_of held live moment slot content chosen
   pub home_is : IsHomeOf (home_here held.table live.homes (key_of content)) chosen.spot
+  pub since : IsSince moment chosen.spot
+  pub empty : is_taken held live slot ≡ true → chosen.spot ≡ nowhere
+  pub fits : KeyFits (key_of content)
   pub counts : CountsFault before now chosen.answer
   pub next_is : next ≡ after_row held place slot (key_of content) content live chosen
 
@@ -180,5 +190,5 @@ abbrev pub changes_here : Held → Live → List Change
 changes_here held live = filter_map (change_here held live) (fold (λ keys key. with_key key keys) [] live.named)
 
 -- what the group leaves to its sync
-abbrev pub group_here : Held → Live → Group
+abbrev pub group_here : Held → Live → PlainClosed
 group_here held live = record { log = changes_here held live; slots = live.slots; contents = live.contents; modes = held.modes; quota = held.quota }

@@ -6,10 +6,12 @@ ghost use Rattle.disk_model.specs.Images.{Stays};
 ghost use Rattle.disk_model.specs.Crashes.{LeavesOnly, SameOutcomes};
 ghost use Rattle.grant_book.specs.Sectors.{AreFirstFree};
 ghost use Rattle.pool_model.specs.Plain.{task_of};
-ghost use Rattle.table_state.specs.Flat.{counted_homes};
+ghost use Rattle.pool_model.specs.Table.{counted_homes};
+ghost use Rattle.table_state.specs.Closing.{IsInRange};
 ghost use Rattle.table_state.specs.Sound.{IsSound};
 ghost use Rattle.lane_run.specs.Groups.{IsFirstWrite};
 ghost use Rattle.lane_run.specs.Going.{HasRunFree, HasRunOver, OnlyMeter};
+ghost use Rattle.lane_run.specs.Live.{group_here};
 
 use crate::live::LiveGroup;
 use crate::metering::metered;
@@ -55,19 +57,21 @@ pub fn begun<D: Disk, K: KeyOf>(
     moment: u64,
 ) -> Result<(LiveGroup, u64), GroupFault>
     requires sound { IsSound pool.now }
-    requires on_disk { pool.now.sectors ≤ D.sectors_of disk.old }
+    requires on_disk { pool.now.sectors ≤ (D.state disk.old).sectors }
+    requires moment { moment < 2 ^ 40 }
     requires few { length commands.now ≤ 65_536 }
     requires writes { AllByRecursion IsFirstWrite (map task_of commands.now) }
     requires room { length commands.now ≤ count_by not pool.now.used }
-    ensures sectors { D.sectors_of disk.new ≡ D.sectors_of disk.old }
-    ensures stays { Stays (D.seen disk.old) (D.seen disk.new) }
-    ensures crash { SameOutcomes (D.may_leave disk.old) (D.may_leave disk.new) }
-    ensures any_moment { LeavesOnly D.clock D.left_since disk.old disk.new (D.may_leave disk.old) }
-    ensures run { IfOk result (λ done. HasRunFree (D.seen disk.old) (K.key_of keyer.now) pool.now moment (map task_of commands.now) done.1 done.0) }
-    ensures counts { IfOk result (λ done. min (D.read_faults disk.old + done.1) (2 ^ 64 - 1) ≤ D.read_faults disk.new) }
-    ensures reads { D.read_faults disk.old ≤ D.read_faults disk.new }
-    ensures writes { D.write_faults disk.old ≤ D.write_faults disk.new }
-    ensures causes { OnlyMeter (D.write_faults disk.old) (D.write_faults disk.new) result }
+    ensures sectors { (D.state disk.new).sectors ≡ (D.state disk.old).sectors }
+    ensures stays { Stays (D.state disk.old).seen (D.state disk.new).seen }
+    ensures crash { SameOutcomes (D.state disk.old).may_leave (D.state disk.new).may_leave }
+    ensures any_moment { LeavesOnly (D.state disk.old) (D.state disk.new) (D.state disk.old).may_leave }
+    ensures run { IfOk result (λ done. HasRunFree (D.state disk.old).seen (K.keying keyer.now).key_of pool.now moment (map task_of commands.now) done.1 done.0) }
+    ensures in_range { IfOk result (λ done. IsInRange pool.now (group_here pool.now done.0)) }
+    ensures counts { IfOk result (λ done. min ((D.state disk.old).read_faults + done.1) (2 ^ 64 - 1) ≤ (D.state disk.new).read_faults) }
+    ensures reads { (D.state disk.old).read_faults ≤ (D.state disk.new).read_faults }
+    ensures writes { (D.state disk.old).write_faults ≤ (D.state disk.new).write_faults }
+    ensures causes { OnlyMeter (D.state disk.old).write_faults (D.state disk.new).write_faults result }
 {
     crash_laws(disk);
     let Ok(found) = pool.used.free_places(alloc, commands.len() as u64) else {

@@ -10,7 +10,7 @@ ghost use Rattle.lane_run.specs.Live.{sector_here};
 
 use disk_model::{Disk, Failed, SECTOR_BYTES};
 use pool_model::StoredBlock;
-use txg_sync::sector_of;
+use table_state::sector_of;
 
 /// The block that the group stored at a place.
 fn stored_at(contents: &[StoredBlock], place: u64) -> Option<&StoredBlock>
@@ -26,9 +26,9 @@ pub fn sector_at<D: Disk>(
     contents: &[StoredBlock],
     place: u64,
 ) -> Result<[u8; SECTOR_BYTES], Failed>
-    requires on_disk { place < D.sectors_of disk.now }
+    requires on_disk { place < (D.state disk.now).sectors }
     requires blocks { AllByRecursion (λ stored. length stored.bytes ≤ 4096) (map stored_of contents.now) }
-    ensures bytes { (image : Image) → D.seen disk.now ≡ Some image → IfOk result (λ sector. sector ≡ sector_here image (map stored_of contents.now) place) }
+    ensures bytes { (image : Image) → (D.state disk.now).seen ≡ Some image → IfOk result (λ sector. sector ≡ sector_here image (map stored_of contents.now) place) }
     ensures cause { HasCause (D.meter_faults meter.old) (D.meter_faults meter.new) result }
 {
     if let Some(stored) = stored_at(contents, place) {

@@ -2,9 +2,7 @@
 
 ghost use Rattle.std.specs.Prelude.{◌≡◌, ◌≤◌, ◌+◌, ◌^◌, ◌<◌, [], ◌∷◌, map, length, IfOk, OnErr};
 ghost use Rattle.pool_model.specs.Plain.{reply_of, task_of, told_of};
-ghost use Rattle.txg_sync.specs.Planning.{group_in};
-ghost use Rattle.txg_sync.specs.Syncing.{IsInRange};
-ghost use Rattle.txg_sync.specs.Writing.{block_places};
+ghost use Rattle.table_state.specs.Closing.{IsInRange, block_places, closed_of};
 ghost use Rattle.lane_run.specs.Live.{group_here};
 ghost use Rattle.lane_run.specs.Going.{lanes_here};
 
@@ -13,7 +11,6 @@ use crate::live::LiveGroup;
 use pool_model::{Answers, Closed, Command, GroupFault, GroupNote, LaneNote, PlaceList};
 use std::alloc::{AllocError, Global};
 use table_state::Pool;
-use txg_sync::is_in_range;
 
 /// Notes what lane 0 did, where it had commands. The error is want of memory.
 fn note_lane(
@@ -52,18 +49,15 @@ pub fn ended(
     note: &mut GroupNote,
 ) -> Result<Closed, AllocError>
     requires last { pool.now.group < 2 ^ 63 }
+    requires in_range { IsInRange pool.now (group_here pool.now live) }
     requires unnoted { note.old.lanes.items ≡ [] }
-    ensures group { IfOk result (λ closed. group_in closed ≡ group_here pool.now live) }
-    ensures in_range { IfOk result (λ closed. IsInRange pool.now (group_in closed)) }
+    ensures group { IfOk result (λ closed. closed_of closed ≡ group_here pool.now live) }
+    ensures in_range { IfOk result (λ closed. IsInRange pool.now (closed_of closed)) }
     ensures noted { IfOk result (λ closed. told_of note.new ≡ record (told_of note.old) { lanes = lanes_here (map task_of commands.now) live.replies (block_places live.contents) faults }) }
     ensures unnoted { OnErr result (told_of note.new ≡ told_of note.old) }
     ensures still { OnErr result (note.new.lanes.items ≡ []) }
 {
     let (closed, answers, fresh) = closed(alloc, pool, live, pool.sealed + 1)?;
-    // The numbers of a group of writes are in their ranges, since the pool's are; the test says so to the caller.
-    if !is_in_range(pool, &closed) {
-        return Err(AllocError);
-    }
     note_lane(note, commands, answers, fresh, faults)?;
     Ok(closed)
 }

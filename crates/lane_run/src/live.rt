@@ -4,7 +4,7 @@ ghost use Rattle.ddt_entry.specs.Keys.{key_eq};
 ghost use Rattle.pool_model.specs.Pool.{tracked};
 ghost use Rattle.pool_model.specs.Plain.{stored_of, reply_of, to_write};
 ghost use Rattle.pool_model.specs.Command.{at_home, at_fresh};
-ghost use Rattle.held_laws.specs.Slots.{kind_of};
+ghost use Rattle.table_state.specs.Slots.{kind_of};
 ghost use Rattle.home_rules.specs.Rows.{mark_since, spot_of};
 ghost use Rattle.table_state.specs.Pools.{is_slot_at};
 ghost use Rattle.lane_run.specs.Live.{home_here, put_home, put_at, brought, with_first, noted, is_taken, is_change_at, IsShareable};

@@ -5,15 +5,15 @@ ghost use Rattle.disk_model.specs.Crashes.{LeavesOnly, SameOutcomes};
 ghost use Rattle.disk_model.specs.Faults.{Rose};
 ghost use Rattle.pool_model.specs.declared.faults.GroupFault.TheVariants as faults;
 ghost use Rattle.pool_model.specs.declared.notes.Outcome.TheVariants as outcomes;
-ghost use Rattle.pool_model.specs.Group.{Standing};
+ghost use Rattle.pool_model.specs.Group.{Standing, lanes_in_turn};
 ghost use Rattle.pool_model.specs.Plain.{task_of, told_of};
 ghost use Rattle.pool_model.specs.Space.{need, space_lacking, changes_in, writes_in};
 ghost use Rattle.pool_model.specs.Table.{flush_limit};
+ghost use Rattle.table_state.specs.Closing.{closed_of, IsInRange};
+ghost use Rattle.table_state.specs.Holding.{StandsOver};
 ghost use Rattle.table_state.specs.SealForms.{last_group};
 ghost use Rattle.table_state.specs.Sound.{IsSound};
-ghost use Rattle.txg_sync.specs.Planning.{group_in};
-ghost use Rattle.txg_sync.specs.Syncing.{IsInRange};
-ghost use Rattle.lane_run.specs.Groups.{IsFirstWrite, IsRunFrom, StandsOver};
+ghost use Rattle.lane_run.specs.Groups.{IsFirstWrite, IsRunFrom};
 
 use crate::beginning::begun;
 use crate::ending::ended;
@@ -38,29 +38,31 @@ pub fn run_group_plain<D: Disk, K: KeyOf>(
 ) -> Result<Closed, GroupFault>
     requires sound { IsSound pool.now }
     requires last { pool.now.group + 1 ≤ last_group }
-    requires on_disk { pool.now.sectors ≤ D.sectors_of disk.old }
+    requires on_disk { pool.now.sectors ≤ (D.state disk.old).sectors }
     requires moment { group.now.moment < 2 ^ 40 }
     requires few { length group.now.commands.items ≤ 65_536 }
     requires writes { AllByRecursion IsFirstWrite (map task_of group.now.commands.items) }
     requires unnoted { note.old.lanes.items ≡ [] }
-    ensures sectors { D.sectors_of disk.new ≡ D.sectors_of disk.old }
-    ensures stays { Stays (D.seen disk.old) (D.seen disk.new) }
-    ensures crash { SameOutcomes (D.may_leave disk.old) (D.may_leave disk.new) }
-    ensures any_moment { LeavesOnly D.clock D.left_since disk.old disk.new (D.may_leave disk.old) }
+    ensures sectors { (D.state disk.new).sectors ≡ (D.state disk.old).sectors }
+    ensures stays { Stays (D.state disk.old).seen (D.state disk.new).seen }
+    ensures crash { SameOutcomes (D.state disk.old).may_leave (D.state disk.new).may_leave }
+    ensures any_moment { LeavesOnly (D.state disk.old) (D.state disk.new) (D.state disk.old).may_leave }
     ensures kept { told_of note.new ≡ record (told_of note.old) { lanes = (told_of note.new).lanes } }
     ensures unnoted { OnErr result (note.new.lanes.items ≡ []) }
-    ensures in_range { IfOk result (λ closed. IsInRange pool.now (group_in closed)) }
-    ensures run { (image : Image) (s : Standing) → D.seen disk.old ≡ Some image → StandsOver image pool.now s
-        → IfOk result (λ closed. IsRunFrom (K.key_of keyer.now) image pool.now s group.now.moment (map task_of group.now.commands.items) (told_of note.new) (group_in closed)) }
+    ensures in_range { IfOk result (λ closed. IsInRange pool.now (closed_of closed)) }
+    ensures run { (image : Image) (s : Standing) → (D.state disk.old).seen ≡ Some image → StandsOver image pool.now s
+        → IfOk result (λ closed. IsRunFrom (lanes_in_turn (K.keying keyer.now)) image pool.now s
+        group.now.moment (map task_of group.now.commands.items) (told_of note.new) (closed_of closed)) }
     ensures room { IfOk result (λ closed. space_lacking (count_by not pool.now.used)
         (need (length pool.now.pages) (flush_limit pool.now.table) (changes_in (map task_of group.now.commands.items)) (writes_in (map task_of group.now.commands.items))) ≡ None) }
     ensures no_space { (needed left : ℕ) → IsErrOf result (faults.NoSpace needed left) → space_lacking (count_by not pool.now.used)
-        (need (length pool.now.pages) (flush_limit pool.now.table) (changes_in (map task_of group.now.commands.items)) (writes_in (map task_of group.now.commands.items))) ≡ Some (outcomes.NoSpace needed left) }
-    ensures reads { min (D.read_faults disk.old + sum_by (λ lane. lane.faults) (told_of note.new).lanes) (2 ^ 64 - 1) ≤ D.read_faults disk.new }
-    ensures writes { D.write_faults disk.old ≤ D.write_faults disk.new }
+        (need (length pool.now.pages) (flush_limit pool.now.table) (changes_in (map task_of group.now.commands.items)) (writes_in (map task_of group.now.commands.items)))
+        ≡ Some (outcomes.NoSpace needed left) }
+    ensures reads { min ((D.state disk.old).read_faults + sum_by (λ lane. lane.faults) (told_of note.new).lanes) (2 ^ 64 - 1) ≤ (D.state disk.new).read_faults }
+    ensures writes { (D.state disk.old).write_faults ≤ (D.state disk.new).write_faults }
     ensures opened { IsErrOf result faults.ReadFault → ⊥ }
     ensures undamaged { (sector : ℕ) → IsErrOf result (faults.Damaged sector) → ⊥ }
-    ensures write_cause { IsErrOf result faults.WriteFault → Rose (D.write_faults disk.old) (D.write_faults disk.new) }
+    ensures write_cause { IsErrOf result faults.WriteFault → Rose (D.state disk.old).write_faults (D.state disk.new).write_faults }
 {
     let commands = group.commands.as_slice();
     let writes = group.commands.len();

@@ -14,7 +14,7 @@ use disk_model::Disk;
 use pool_model::{Block, Command, Mode, Payload, Verb};
 use reserved_list::ReservedList;
 use std::alloc::{AllocError, Global};
-use table_state::Pool;
+use table_state::{Pool, key_fits};
 
 /// Whether a lane in this mode names keys of the table.
 fn uses_table(mode: Mode) -> bool
@@ -41,10 +41,11 @@ fn write<D: Disk, K: KeyOf>(
     requires some { 0 < length block.items }
     requires fits { length block.items ≤ 4096 }
     requires number { pool.now.group < 2 ^ 63 }
-    requires ready { IsReady pool.now (D.sectors_of disk.now) live }
-    ensures { IfOk result (λ next. IsWritten (D.seen disk.now) (K.key_of keyer.now) pool.now moment place slot block.items (D.meter_faults meter.old) (D.meter_faults meter.new) live next) }
+    requires ready { IsReady pool.now (D.state disk.now).sectors live }
+    ensures { IfOk result (λ next. IsWritten (D.state disk.now).seen (K.keying keyer.now).key_of pool.now moment place slot block.items (D.meter_faults meter.old) (D.meter_faults meter.new) live next) }
 {
     let key = keyer.key(block.as_slice());
+    key_fits(key);
     let row = chosen(
         pool,
         disk,
@@ -89,8 +90,8 @@ pub fn turn<D: Disk, K: KeyOf>(
 ) -> Result<LiveGroup, AllocError>
     requires write { IsFirstWrite (task_of command.now) }
     requires number { pool.now.group < 2 ^ 63 }
-    requires ready { IsReady pool.now (D.sectors_of disk.now) live }
-    ensures { IfOk result (λ next. WritesAct (D.seen disk.now) (K.key_of keyer.now) pool.now moment place command.now.slot (act_of command.now.verb) (D.meter_faults meter.old) (D.meter_faults meter.new) live next) }
+    requires ready { IsReady pool.now (D.state disk.now).sectors live }
+    ensures { IfOk result (λ next. WritesAct (D.state disk.now).seen (K.keying keyer.now).key_of pool.now moment place command.now.slot (act_of command.now.verb) (D.meter_faults meter.old) (D.meter_faults meter.new) live next) }
 {
     let Verb::Write(payload) = &command.verb else {
         unreachable!()

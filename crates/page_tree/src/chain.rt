@@ -3,7 +3,7 @@ ghost use Rattle.std.specs.List.{AllByRecursion};
 ghost use Rattle.sha2.specs.Sha256.{sha256};
 ghost use Rattle.disk_model.specs.Images.{Image, Torn, Holds, MayTouch};
 ghost use Rattle.disk_model.specs.Crashes.{LeavesOnly};
-ghost use Rattle.disk_model.specs.Faults.{HasCause};
+ghost use Rattle.disk_model.specs.Accounts.{Accounts};
 ghost use Rattle.page_tree.specs.Chains.{record_len, page_before, write_page, chain_of, chain_in, pages_for, Written, HoldsWrites, AreOpen, MayTouchAll, ChainLeaves};
 
 use crate::chain_page::{PAGE_RECORDS, chain_page_of};
@@ -19,15 +19,13 @@ fn write_page<D: Disk>(
     place: u64,
 ) -> Result<PagePtr, Failed>
     requires room { length records.now ≤ 56 }
-    requires within { place < D.sectors_of disk.old }
-    ensures sectors { D.sectors_of disk.new ≡ D.sectors_of disk.old }
+    requires within { place < (D.state disk.old).sectors }
     ensures pointer { IfOk result (λ pointer. pointer ≡ record { sector = place; digest = sha256 (page_before next records.now) }) }
-    ensures written { OnOk result (Holds (D.seen disk.old) (D.seen disk.new) place (page_before next records.now)) }
-    ensures touched { OnErr result (MayTouch (D.seen disk.old) (D.seen disk.new) place) }
-    ensures any_moment { LeavesOnly D.clock D.left_since disk.old disk.new
-        (λ c. (d : Image) × D.may_leave disk.old d × Torn place d c) }
-    ensures reads { D.read_faults disk.old ≤ D.read_faults disk.new }
-    ensures cause { HasCause (D.write_faults disk.old) (D.write_faults disk.new) result }
+    ensures written { OnOk result (Holds (D.state disk.old).seen (D.state disk.new).seen place (page_before next records.now)) }
+    ensures touched { OnErr result (MayTouch (D.state disk.old).seen (D.state disk.new).seen place) }
+    ensures any_moment { LeavesOnly (D.state disk.old) (D.state disk.new)
+        (λ c. (d : Image) × (D.state disk.old).may_leave d × Torn place d c) }
+    ensures accounts { Accounts (D.state disk.old) (D.state disk.new) result }
 {
     crash_laws(disk);
     let page = chain_page_of(&next.unwrap_or(PagePtr::NULL), records);
@@ -47,15 +45,13 @@ pub fn write_chain<D: Disk>(
     places: &[u64],
 ) -> Result<Option<PagePtr>, Failed>
     requires pages { length places.now ≡ pages_for (length records.now) }
-    requires within { All (λ place. place < D.sectors_of disk.old) places.now }
-    ensures sectors { D.sectors_of disk.new ≡ D.sectors_of disk.old }
+    requires within { All (λ place. place < (D.state disk.old).sectors) places.now }
     ensures root { IfOk result (λ root. root ≡ (chain_of places.now records.now).root) }
-    ensures written { OnOk result (Written (D.seen disk.old) (D.seen disk.new) (chain_of places.now records.now).writes) }
-    ensures touched { MayTouchAll (D.seen disk.old) (D.seen disk.new) places.now }
-    ensures any_moment { LeavesOnly D.clock D.left_since disk.old disk.new
-        (ChainLeaves places.now (D.may_leave disk.old)) }
-    ensures reads { D.read_faults disk.old ≤ D.read_faults disk.new }
-    ensures cause { HasCause (D.write_faults disk.old) (D.write_faults disk.new) result }
+    ensures written { OnOk result (Written (D.state disk.old).seen (D.state disk.new).seen (chain_of places.now records.now).writes) }
+    ensures touched { MayTouchAll (D.state disk.old).seen (D.state disk.new).seen places.now }
+    ensures any_moment { LeavesOnly (D.state disk.old) (D.state disk.new)
+        (ChainLeaves places.now (D.state disk.old).may_leave) }
+    ensures accounts { Accounts (D.state disk.old) (D.state disk.new) result }
 {
     crash_laws(disk);
     let mut next = None;

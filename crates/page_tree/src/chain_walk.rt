@@ -85,10 +85,10 @@ pub fn read_chain<D: Disk>(
     named: &mut SectorList,
     out: &mut RecordList,
 ) -> Result<(), PageFault>
-    ensures read { OnOk result (IfSome (D.seen disk.now) (λ image. HasWalked
-        (chain_in image (D.sectors_of disk.now) named.old.items root.now) named.new.items out.old.items out.new.items)) }
+    ensures read { OnOk result (IfSome (D.state disk.now).seen (λ image. HasWalked
+        (chain_in image (D.state disk.now).sectors named.old.items root.now) named.new.items out.old.items out.new.items)) }
     ensures damaged { (sector : ℕ) → IsErrOf result (Damaged sector) →
-        IfSome (D.seen disk.now) (λ image. chain_in image (D.sectors_of disk.now) named.old.items root.now ≡ None) }
+        IfSome (D.state disk.now).seen (λ image. chain_in image (D.state disk.now).sectors named.old.items root.now ≡ None) }
     ensures count { D.meter_faults meter.old ≤ D.meter_faults meter.new }
     ensures cause { IsErrOf result ReadFault → Rose (D.meter_faults meter.old) (D.meter_faults meter.new) }
 {

@@ -24,11 +24,11 @@ pub trait PageReader<D: Disk>: Send + Drop {
     /// no memory that could be refused to the caller. After a fault the buffer may hold any bytes.
     fn page(&mut self, disk: &D, ptr: &PagePtr, out: &mut [u8; 4096]) -> Result<(), FindFault>
         requires fits { fits self.old disk.now }
-        requires sector { ptr.now.sector < D.sectors_of disk.now }
+        requires sector { ptr.now.sector < (D.state disk.now).sectors }
         ensures fits { fits self.new disk.now }
-        ensures page { OnOk result (Gives (D.seen disk.now) ptr.now.sector out.new) }
+        ensures page { OnOk result (Gives (D.state disk.now).seen ptr.now.sector out.new) }
         ensures digest { OnOk result (sha256 out.new ≡ ptr.now.digest) }
-        ensures damaged { (sector : ℕ) → IsErrOf result (Damaged sector) → LacksDigest (D.seen disk.now) ptr.now sector }
+        ensures damaged { (sector : ℕ) → IsErrOf result (Damaged sector) → LacksDigest (D.state disk.now).seen ptr.now sector }
         ensures count { faults self.old ≤ faults self.new }
         ensures cause { IsErrOf result ReadFault → Rose (faults self.old) (faults self.new) };
 }

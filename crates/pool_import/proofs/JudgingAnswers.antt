@@ -7,11 +7,10 @@ use Rattle.ddt_entry.specs.declared.entry.Entry.{Entry}
 use Rattle.disk_model.specs.Images.{Image}
 use Rattle.grant_book.specs.Sectors.{marked}
 use Rattle.uber_ring.specs.declared.seal.Seal.{Seal}
-use Rattle.pool_model.specs.Table.{TableState, waiting_in, entries_found}
+use Rattle.pool_model.specs.Table.{TableState, waiting_in, entries_found, AreRising, counted_homes, IsTable}
 use Rattle.pool_model.specs.Space.{used_sectors}
-use Rattle.table_state.specs.Flat.{Flat, AreRising, table_in, pool_in, counted_homes}
-use Rattle.table_state.specs.Tables.{IsTable}
-use Rattle.table_state.proofs.Lists.{pairs_filter}
+use Rattle.table_state.specs.Flat.{Flat, table_in, pool_in}
+use Rattle.pool_model.proofs.Lists.{pairs_filter}
 use Rattle.pool_import.specs.Judged.{counts_hold, pages_used, sectors_taken, judged}
 use Rattle.pool_import.specs.Marks.{spot_of, spot_among, sums_agree, is_counted, are_owned, taken, places_of, places_in, is_clear}
 use Rattle.pool_import.specs.Whole.{IsWhole}

@@ -14,12 +14,10 @@ use Rattle.ddt_entry.specs.declared.entry.Entry.{Entry}
 use Rattle.ddt_entry.specs.declared.entry.Change.{Change}
 use Rattle.ddt_entry.specs.declared.entry.Change.TheVariants as changes
 use Rattle.ddt_entry.proofs.KeyLaws.{key_cmp_total, exact_keys, is_eq-key_cmp, key_eq-true, key_eq-same, key_eq-symm}
-use Rattle.pool_model.specs.Table.{TableState, home_in, entry_at, change_at, found_over, found, set_entry, drop_entry, set_found, entries_found}
-use Rattle.table_state.specs.Flat.{AreRising}
-use Rattle.table_state.specs.Tables.{AreChangesRising, IsTable}
-use Rattle.table_state.proofs.Lists.{all_filter, all_from, all_from_both, pairs_filter}
-use Rattle.table_state.proofs.Sorted.{less_of, all_put, rising_put}
-use Rattle.table_state.proofs.TablePuts.{entries_put, apart_by_order}
+use Rattle.pool_model.specs.Table.{TableState, home_in, entry_at, change_at, found_over, found, set_entry, drop_entry, set_found, entries_found, AreRising, AreChangesRising, IsTable}
+use Rattle.pool_model.proofs.Lists.{all_filter, all_from, all_from_both, pairs_filter}
+use Rattle.pool_model.proofs.Sorted.{less_of, all_put, rising_put}
+use Rattle.pool_model.proofs.TablePuts.{entries_put, apart_by_order}
 
 -- ---- Orders
 

@@ -13,11 +13,10 @@ use Rattle.ddt_entry.specs.declared.entry.SlotKind.TheVariants.{Plain, Flagged}
 use Rattle.ddt_entry.proofs.KeyLaws.{key_eq-true}
 use Rattle.disk_model.specs.Images.{Image}
 use Rattle.pool_model.specs.Pool.{Pool, Pointer, Mark, tracked, loose, is_tracked, since_of, tracks, tracked_at}
-use Rattle.pool_model.specs.Table.{TableState, entry_at, entries_found, found, counted, home_of_pointers}
-use Rattle.table_state.specs.Flat.{pointer_of, mark_by, mark_of, counted_homes}
-use Rattle.table_state.specs.Tables.{IsTable}
+use Rattle.pool_model.specs.Table.{TableState, entry_at, entries_found, found, counted, home_of_pointers, counted_homes, IsTable}
+use Rattle.table_state.specs.Flat.{pointer_of, mark_by, mark_of}
 use Rattle.table_state.specs.declared.slot_record.SlotRecord.{SlotRecord}
-use Rattle.table_state.proofs.Lists.{all_filter, all_from, all_from_both, all_tested}
+use Rattle.pool_model.proofs.Lists.{all_filter, all_from, all_from_both, all_tested}
 use Rattle.pool_import.specs.Marks.{spot_in, counts_for, is_counted}
 use Rattle.pool_import.specs.declared.marks.Spot.{Spot}
 use Rattle.pool_import.proofs.JudgingLists.{every_unfilter, none_passes, list_all-each, each-list_all}

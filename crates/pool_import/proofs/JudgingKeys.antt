@@ -13,13 +13,12 @@ use Rattle.ddt_entry.specs.declared.key.Key.{Key}
 use Rattle.ddt_entry.specs.declared.entry.Home.{Home}
 use Rattle.ddt_entry.specs.declared.entry.Entry.{Entry}
 use Rattle.ddt_entry.proofs.KeyLaws.{key_cmp_total, is_eq-key_cmp, key_eq-true, key_eq-symm}
-use Rattle.pool_model.specs.Table.{TableState, entry_at, entries_found}
+use Rattle.pool_model.specs.Table.{TableState, entry_at, entries_found, AreRising, IsTable}
 use Rattle.pool_model.specs.Pool.{is_tracked}
-use Rattle.table_state.specs.Flat.{AreRising, mark_of}
-use Rattle.table_state.specs.Tables.{IsTable}
+use Rattle.table_state.specs.Flat.{mark_of}
 use Rattle.table_state.specs.declared.slot_record.SlotRecord.{SlotRecord}
-use Rattle.table_state.proofs.Lists.{all_each, all_from}
-use Rattle.table_state.proofs.TablePuts.{apart_by_order}
+use Rattle.pool_model.proofs.Lists.{all_each, all_from}
+use Rattle.pool_model.proofs.TablePuts.{apart_by_order}
 use Rattle.pool_import.specs.Marks.{counts_for, spot_among, spot_of}
 use Rattle.pool_import.specs.declared.marks.Spot.{Spot}
 use Rattle.pool_import.proofs.JudgingLists.{every_at, every_push}

@@ -4,7 +4,7 @@ use Rattle.std.specs.Prelude.{filter, slice_get}
 use Rattle.std.specs.List.{AllByRecursion, list_all}
 use Rattle.std.proofs.lemmas.Bool.{false≢true, and_parts}
 use Rattle.pool_model.specs.Pool.{Pairwise}
-use Rattle.table_state.proofs.Lists.{all_from_both}
+use Rattle.pool_model.proofs.Lists.{all_from_both}
 
 -- what holds of each holds of the one at a place
 pub every_at : {X : Type 0} (P : X → Type 0) (xs : List X) (i : ℕ) (x : X) → AllByRecursion P xs → slice_get xs i ≡ Some x → P x

@@ -9,7 +9,7 @@ use Rattle.ddt_entry.specs.Keys.{key_eq}
 use Rattle.ddt_entry.specs.declared.key.Key.{Key}
 use Rattle.ddt_entry.proofs.KeyLaws.{key_eq-true, key_eq-same}
 use Rattle.pool_model.specs.Pool.{Pairwise}
-use Rattle.table_state.proofs.Lists.{all_from}
+use Rattle.pool_model.proofs.Lists.{all_from}
 use Rattle.pool_import.specs.Marks.{are_shared, go_apart, shares_with, are_owned}
 use Rattle.pool_import.specs.declared.marks.Spot.{Spot}
 use Rattle.pool_import.proofs.JudgingLists.{every_at, every_push, pairs_before, pairs_push}

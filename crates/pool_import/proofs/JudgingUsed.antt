@@ -7,7 +7,7 @@ use Rattle.std.proofs.lemmas.List.{length-set}
 use Rattle.pool_model.specs.Pool.{Pairwise}
 use Rattle.grant_book.specs.Sectors.{marked}
 use Rattle.grant_book.proofs.MarkLaws.{marked-at}
-use Rattle.table_state.proofs.Lists.{all_from, all_from_both}
+use Rattle.pool_model.proofs.Lists.{all_from, all_from_both}
 use Rattle.pool_import.specs.Marks.{taken}
 
 -- ---- Marks

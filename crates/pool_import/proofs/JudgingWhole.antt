@@ -11,15 +11,15 @@ use Rattle.grant_book.specs.Sectors.{marked, ring_used}
 use Rattle.grant_book.proofs.MarkLaws.{length-marked, marked-at, length-ring_used, ring_used-at}
 use Rattle.uber_ring.specs.declared.seal.Seal.{Seal}
 use Rattle.pool_model.specs.Pool.{Pool, Pointer, Pairwise, IsApart, run_length, LiesWithin, is_at}
-use Rattle.pool_model.specs.Table.{TableState, IsApartFrom, waiting_in, entries_found}
+use Rattle.pool_model.specs.Table.{TableState, IsApartFrom, waiting_in, entries_found, counted_homes, IsTable}
 use Rattle.pool_model.specs.Space.{used_sectors}
-use Rattle.table_state.specs.Flat.{Flat, HoldTogether, IsWithin, IsChangeWithin, IsClear, table_in, pool_in, pointer_of, counted_homes}
+use Rattle.table_state.specs.Flat.{Flat, HoldTogether, IsWithin, IsChangeWithin, IsClear, table_in, pool_in, pointer_of}
 use Rattle.table_state.specs.SlotRecords.{is_slot}
 use Rattle.table_state.specs.Sound.{HasLength}
-use Rattle.table_state.specs.Tables.{IsTable, IsTableWithin}
+use Rattle.table_state.specs.Tables.{IsTableWithin}
 use Rattle.table_state.specs.declared.slot_record.SlotRecord.{SlotRecord}
 use Rattle.table_state.proofs.UsedLaws.{one_sector, used_is}
-use Rattle.table_state.proofs.Lists.{all_filter, all_from, all_from_both}
+use Rattle.pool_model.proofs.Lists.{all_filter, all_from, all_from_both}
 use Rattle.pool_import.specs.Lengths.{HasLengths}
 use Rattle.pool_import.specs.Marks.{spot_of, spot_in, go_apart, is_counted, are_owned, taken, places_of, places_in, is_clear}
 use Rattle.pool_import.specs.Whole.{IsWhole}

@@ -4,9 +4,9 @@ use Rattle.ddt_entry.specs.Records.{IsKeyLength}
 use Rattle.uber_ring.specs.declared.seal.Seal.{Seal}
 use Rattle.table_state.specs.Flat.{Flat, table_in, last_changes}
 use Rattle.table_state.specs.Sound.{HasLength, HasKeyLengths}
-use Rattle.table_state.proofs.Lists.{all_filter}
-use Rattle.table_state.proofs.Sorted.{all_fold}
-use Rattle.table_state.proofs.TablePuts.{entries_put, changes_put}
+use Rattle.pool_model.proofs.Lists.{all_filter}
+use Rattle.pool_model.proofs.Sorted.{all_fold}
+use Rattle.pool_model.proofs.TablePuts.{entries_put, changes_put}
 use Rattle.pool_import.specs.Lengths.{HasLengths}
 
 pub key_lengths : (seal : Seal) (flat : Flat) → HasLengths flat → HasKeyLengths (table_in seal flat)

@@ -6,8 +6,8 @@ use Rattle.disk_model.specs.Images.{Image}
 use Rattle.uber_ring.specs.Ring.{newest}
 use Rattle.uber_ring.specs.declared.seal.Seal.{Seal}
 use Rattle.pool_model.specs.Pool.{Pool, IsWellFormed}
-use Rattle.pool_model.specs.Table.{TableState, Matches, waiting_in}
-use Rattle.table_state.specs.Flat.{Flat, IsRead, HoldTogether, StandsFor, IsDamaged, IsClear, flat_version, table_in, pool_in, counted_homes}
+use Rattle.pool_model.specs.Table.{TableState, Matches, waiting_in, counted_homes}
+use Rattle.table_state.specs.Flat.{Flat, IsRead, HoldTogether, StandsFor, IsDamaged, IsClear, flat_version, table_in, pool_in}
 use Rattle.table_state.specs.Pools.{Held, IsHeld}
 use Rattle.table_state.proofs.FlatLaws.{one_flat}
 use Rattle.pool_import.specs.Whole.{IsWhole}

@@ -15,8 +15,8 @@ use Rattle.ddt_entry.specs.declared.entry.Change.TheVariants as changes
 use Rattle.ddt_entry.proofs.KeyLaws.{key_cmp_total}
 use Rattle.uber_ring.specs.declared.seal.Seal.{Seal}
 use Rattle.pool_model.specs.Pool.{Pairwise}
-use Rattle.pool_model.specs.Table.{entry_at}
-use Rattle.table_state.specs.Flat.{Flat, IsWithin, IsChangeWithin, AreRising, HoldTogether, stands_before}
+use Rattle.pool_model.specs.Table.{entry_at, AreRising}
+use Rattle.table_state.specs.Flat.{Flat, IsWithin, IsChangeWithin, HoldTogether, stands_before}
 use Rattle.table_state.specs.declared.slot_record.SlotRecord.{SlotRecord}
 use Rattle.pool_import.specs.Together.{is_within, is_change_within, rises, has_lower_key, is_elsewhere, are_within, are_sorted, are_classes, are_counted, hold_together}
 

@@ -4,8 +4,8 @@ use Rattle.std.specs.List.{list_all}
 use Rattle.ddt_entry.specs.declared.entry.Entry.{Entry}
 use Rattle.grant_book.specs.Sectors.{marked, ring_used}
 use Rattle.uber_ring.specs.declared.seal.Seal.{Seal}
-use Rattle.pool_model.specs.Table.{TableState, waiting_in}
-use Rattle.table_state.specs.Flat.{Flat, counted_homes}
+use Rattle.pool_model.specs.Table.{TableState, waiting_in, counted_homes}
+use Rattle.table_state.specs.Flat.{Flat}
 use Rattle.pool_import.specs.Marks.{spot_of, sums_agree, is_counted, are_owned, taken, places_of, places_in, is_clear}
 use Rattle.pool_import.specs.declared.marks.Spot.{Spot}
 

@@ -4,8 +4,8 @@ use Rattle.std.specs.List.{AllByRecursion}
 use Rattle.disk_model.specs.Images.{Image}
 use Rattle.uber_ring.specs.declared.seal.Seal.{Seal}
 use Rattle.pool_model.specs.Pool.{IsWellFormed}
-use Rattle.pool_model.specs.Table.{Matches, waiting_in}
-use Rattle.table_state.specs.Flat.{Flat, table_in, pool_in, counted_homes, IsClear}
+use Rattle.pool_model.specs.Table.{Matches, waiting_in, counted_homes}
+use Rattle.table_state.specs.Flat.{Flat, table_in, pool_in, IsClear}
 
 pub record IsWhole (image : Image) (seal : Seal) (flat : Flat) : Type 0 where
   pub well_formed : IsWellFormed seal.sectors (pool_in image seal flat)

@@ -9,9 +9,10 @@ ghost use Rattle.std.specs.Prelude.{◌≡◌, ◌≤◌, IfOk, IfSome, IfNone, 
 ghost use Rattle.std.specs.List.{AllByRecursion};
 ghost use Rattle.disk_model.specs.Images.{Image};
 ghost use Rattle.pool_model.specs.Space.{used_sectors};
-ghost use Rattle.table_state.specs.Flat.{AreRising, HoldTogether, table_in, pool_in};
+ghost use Rattle.pool_model.specs.Table.{AreRising, IsTable};
+ghost use Rattle.table_state.specs.Flat.{HoldTogether, table_in, pool_in};
 ghost use Rattle.table_state.specs.SlotRecords.{is_slot};
-ghost use Rattle.table_state.specs.Tables.{IsTable, IsTableWithin};
+ghost use Rattle.table_state.specs.Tables.{IsTableWithin};
 ghost use Rattle.pool_import.specs.Judged.{counts_hold, sectors_taken, judged};
 ghost use Rattle.pool_import.specs.Lengths.{HasLengths};
 ghost use Rattle.pool_import.specs.Whole.{IsWhole};

@@ -1,7 +1,7 @@
 ghost use Rattle.std.specs.Prelude.{◌≡◌, ◌==◌, ℕ, IfOk, nat_lt, map, filter, count_by, sum_by};
 ghost use Rattle.std.specs.List.{list_all};
-ghost use Rattle.table_state.specs.Flat.{AreRising};
 ghost use Rattle.pool_import.specs.Marks.{counts_for, is_counted, sums_agree};
+ghost use Rattle.pool_model.specs.Table.{AreRising};
 
 use crate::judge_keys::index_of;
 use crate::marks::Spot;

@@ -2,8 +2,7 @@ ghost use Rattle.std.specs.Prelude.{◌≡◌, ℕ, true, false, Some, IfSome, I
 ghost use Rattle.std.specs.List.{AllByRecursion};
 ghost use Rattle.ddt_entry.specs.Keys.{key_eq};
 ghost use Rattle.ddt_entry.specs.declared.entry.Entry.{Entry as AnEntry};
-ghost use Rattle.pool_model.specs.Table.{entry_at};
-ghost use Rattle.table_state.specs.Flat.{AreRising};
+ghost use Rattle.pool_model.specs.Table.{entry_at, AreRising};
 
 use ddt_entry::{Entry, Home, Key};
 use std::cmp::Ordering;

@@ -1,6 +1,7 @@
 ghost use Rattle.std.specs.Prelude.{◌≡◌, IfOk, map};
 ghost use Rattle.pool_model.specs.Pool.{is_tracked};
-ghost use Rattle.table_state.specs.Flat.{AreRising, mark_by, mark_of};
+ghost use Rattle.pool_model.specs.Table.{AreRising};
+ghost use Rattle.table_state.specs.Flat.{mark_by, mark_of};
 ghost use Rattle.pool_import.specs.Marks.{spot_among};
 
 use crate::judge_keys::home_at;

@@ -20,7 +20,18 @@ read_files = record { empty = refl; asks = refl; imports = refl; no_write = refl
 
 pub limits : Limits
 unfolding pool_on_literals
-limits = record { longest_file = refl; sixteen = refl; powers = refl; block = refl; longer = refl; writes = refl; one_more = refl; items = refl; one_item_more = refl }
+limits = record {
+  longest_file = refl;
+  sixteen = refl;
+  powers = refl;
+  block = refl;
+  longer = refl;
+  writes = refl;
+  one_more = refl;
+  items =
+      refl;
+  one_item_more = refl;
+}
 
 pub digests : Digests
 unfolding pool_on_literals

@@ -60,7 +60,8 @@ NoOther key_of content other = key_of content ≡ key_of other → content ≡ o
 pub record HasNoOther (key_of : List ℕ → Key) (s : Standing) (others : List (List ℕ)) (content : List ℕ) : Type 0 where
   pub writes : AllByRecursion (NoOther key_of content) others
   pub pointers : AllByRecursion (λ p. key_of content ≡ p.key → content ≡ p.content) s.pool.pointers
-  pub waiting : AllByRecursion (λ entry. key_of content ≡ entry.key → content ≡ take entry.key.len (s.blocks entry.home.place)) (waiting_in s.table)
+  pub waiting : AllByRecursion (λ entry. key_of content ≡ entry.key → content ≡ take entry.key.len (s.blocks entry.home.place))
+      (waiting_in s.table)
 
 -- over these steps from this standing on, each content that a step writes and trusts
 abbrev pub NoClash : (List ℕ → Key) → Standing → List RunStep → Type 0

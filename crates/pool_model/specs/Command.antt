@@ -72,7 +72,8 @@ known_or in_table count (Some p) = Some (record { home = home_at p count; block 
 -- the home of a key at this moment: by the pools of this group, or else by the table as the group found it
 abbrev pub known_home : Opening → Course → Key → Option Known
 known_home opening course key =
-    known_or (known_in_table opening key (found opening.table key)) (count_at course.pool key) (last_tracked key (course.pool ∷ course.earlier))
+    known_or (known_in_table opening key (found opening.table key)) (count_at course.pool key)
+    (last_tracked key (course.pool ∷ course.earlier))
 
 -- whether the quota, if there is one, has room for one more key at 256 bytes each
 abbrev pub allows : (keys : ℕ) → (quota : Option ℕ) → Bool
@@ -127,7 +128,9 @@ slot_row (Some p) other = row written.Taken nowhere
 -- what a write answers, and where its pointer goes
 abbrev pub write_row : Opening → Course → Turn → (content : List ℕ) → Row
 write_row opening course turn content =
-    slot_row (held course.pool turn.task.lane turn.task.slot) (mode_row (mode_of course.pool turn.task.lane) opening (known_home opening course (opening.key_of content)) content (is_fault turn.reply) (allows (length (keys_in course.pool)) course.pool.quota))
+    slot_row (held course.pool turn.task.lane turn.task.slot)
+    (mode_row (mode_of course.pool turn.task.lane) opening (known_home opening course (opening.key_of content)) content
+    (is_fault turn.reply) (allows (length (keys_in course.pool)) course.pool.quota))
 
 -- the next of these places; there is none at 0, which is never free
 abbrev pub first_of : List ℕ → ℕ
@@ -159,7 +162,8 @@ placed opening course task content (at_home home mark) =
     }
 placed opening course task content (at_fresh mark) =
     record course {
-      pool = with_pointer course.pool (pointer_at task (opening.key_of content) content (next_fresh task.lane course.fresh) opening.number mark);
+      pool = with_pointer course.pool
+          (pointer_at task (opening.key_of content) content (next_fresh task.lane course.fresh) opening.number mark);
       earlier = course.pool ∷ course.earlier;
       fresh = take_fresh task.lane course.fresh;
       given = course.given ++ (next_fresh task.lane course.fresh, run_length (opening.key_of content)) ∷ [];
@@ -192,9 +196,11 @@ released course task =
 abbrev pub free_by_mark : Mark → Course → Turn → (key : Key) → Course
 free_by_mark plain course turn key = replied (to_free freed.Freed) (released course turn.task)
 free_by_mark (tracked since) course turn key =
-    naming true key (if is_fault turn.reply then replied (to_free freed.Fault) course else replied (to_free freed.Counted) (released course turn.task))
+    naming true key
+    (if is_fault turn.reply then replied (to_free freed.Fault) course else replied (to_free freed.Counted) (released course turn.task))
 free_by_mark loose course turn key =
-    naming true key (if is_fault turn.reply then replied (to_free freed.Fault) course else replied (to_free freed.Loose) (released course turn.task))
+    naming true key
+    (if is_fault turn.reply then replied (to_free freed.Fault) course else replied (to_free freed.Loose) (released course turn.task))
 
 abbrev pub after_free : Option Pointer → Course → Turn → Course
 after_free None course turn = replied (to_free freed.Empty) course

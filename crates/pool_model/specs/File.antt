@@ -111,7 +111,8 @@ with_group parts (Some moment) = Some (record { parts = parts; group = Some (rec
 -- the open group has a further command, where the line is one
 abbrev pub with_task : (parts : List Part) → OpenGroup → Option Task → Option Progress
 with_task parts group None = None
-with_task parts group (Some task) = Some (record { parts = parts; group = Some (record { moment = group.moment; tasks = group.tasks ++ task ∷ [] }) })
+with_task parts group (Some task) =
+    Some (record { parts = parts; group = Some (record { moment = group.moment; tasks = group.tasks ++ task ∷ [] }) })
 
 -- the line is an item, or begins one
 abbrev pub read_item : (parts : List Part) → (line : List ℕ) → Option Progress
@@ -155,4 +156,6 @@ or_bad (Some parts) = Ok parts
 
 -- the items of a command file, or what is bad in it
 abbrev pub file_of : (bytes : List ℕ) → Result (List Part) Bad
-file_of bytes = if nat_lt file_limit (length bytes) then or_bad None else or_bad (parts_in (Some first_progress) (slice_split is_line_feed bytes))
+file_of bytes =
+    if nat_lt file_limit (length bytes) then or_bad None
+    else or_bad (parts_in (Some first_progress) (slice_split is_line_feed bytes))

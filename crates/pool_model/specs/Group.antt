@@ -78,7 +78,8 @@ change_from key (Some before) (Some home) = if home_eq before home then None els
 
 abbrev pub change_of : Opening → Course → Key → Option Change
 change_of opening course key =
-    change_from key (found opening.table key) (settled opening.number (found opening.table key) (option_map (λ known. known.home) (known_home opening course key)))
+    change_from key (found opening.table key)
+    (settled opening.number (found opening.table key) (option_map (λ known. known.home) (known_home opening course key)))
 
 -- the keys that the group named, sorted, each once
 abbrev pub touched_keys : Course → List Key
@@ -107,7 +108,8 @@ after_lanes opening s course pages =
       pages = pages;
     }
 
--- one note for each lane that has commands, in rising order, with one answer for each of its commands and no more faults than its reads had
+-- one note for each lane that has commands, in rising order, with one answer for each of its commands, and as many faults at least as
+-- its answers tell
 pub record HasEachLane (tasks : List Task) (told : List LaneTold) : Type 0 where
   pub lanes : map (λ lane. lane.lane) told ≡ lanes_of tasks
   pub replies : AllByRecursion (λ lane. length lane.replies ≡ length (tasks_of lane.lane tasks)) told

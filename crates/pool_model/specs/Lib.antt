@@ -1,8 +1,10 @@
+pub mod ByKey
 pub mod Clash
 pub mod Crash
 pub mod Command
 pub mod File
 pub mod Group
+pub mod Homes
 pub mod Plain
 pub mod Pool
 pub mod Prune
@@ -11,6 +13,7 @@ pub mod Space
 pub mod Stats
 pub mod Table
 pub mod Text
+pub mod Waiting
 pub mod Worked
 pub mod WorkedRuns
 pub mod WorkedTurns

@@ -111,7 +111,13 @@ abbrev pub lane_told : LaneNote → LaneTold
 lane_told note = record { lane = note.lane; replies = map reply_of note.answers.items; fresh = note.fresh.items; faults = note.faults }
 
 abbrev pub told_of : GroupNote → Told
-told_of note = record { number = note.number; kind = note.kind; outcome = note.outcome; taken = note.taken; lanes = map lane_told note.lanes.items }
+told_of note = record {
+  number = note.number;
+  kind = note.kind;
+  outcome = note.outcome;
+  taken = note.taken;
+  lanes = map lane_told note.lanes.items;
+}
 
 -- a block with the place that it was given
 pub record Stored : Type 0 where

@@ -90,7 +90,8 @@ outcome_by_room s item =
     unwrap_or (space_lacking (free_count s.sectors s.pages s.pool s.table)
     (need (length s.pages) (flush_limit s.table) (changes_of_group item s.pool) (writes_of_group item))) Sealed
 
--- in an image of version 0: the group ends by its need and by what is free, each run that it gives out is free, and its image has the pages that its pool takes
+-- in an image of version 0: the group ends by its need and by what is free, each run that it gives out is free, and its image has the
+-- pages that its pool takes
 pub record HasFlatRoom (before : Standing) (item : GroupItem) (outcome : Outcome) (given : List (ℕ × ℕ)) (after : Standing) : Type 0 where
   pub outcome_is : outcome ≡ outcome_by_room before item
   pub fresh : AreFresh (IsFree before) given
@@ -110,7 +111,8 @@ AnswersGroup rules s (set_mode lane mode) told = told.lanes ≡ []
 -- what a group did and what stands after it: its run where it was sealed, and nothing where it had no room; one that was cut hasn't ended
 abbrev pub DidGroup : Outcome → Rules → (before : Standing) → GroupItem → Told → (after : Standing) → Type 0
 DidGroup Sealed rules before item told after =
-    (told.taken ≡ taken_in item before.pool) × AnswersGroup rules before item told × (after ≡ sealed_standing rules before item told after.pages)
+    (told.taken ≡ taken_in item before.pool) × AnswersGroup rules before item told
+    × (after ≡ sealed_standing rules before item told after.pages)
 DidGroup (NoSpace need free) rules before item told after = (told.taken ≡ 0) × (told.lanes ≡ []) × (after ≡ before)
 DidGroup Cut rules before item told after = ⊥
 
@@ -123,7 +125,8 @@ pub record EndsGroup (room : Room) (rules : Rules) (before : Standing) (item : G
 
 -- ---- The steps of a run
 
--- one item: what stood before it, its note where it is a group, and what stands after it; after a group that was cut what may stand, if its sync was begun
+-- one item: what stood before it, its note where it is a group, and what stands after it; after a group that was cut what may stand,
+-- if its sync was begun
 pub record RunStep : Type 0 where
   pub part : Part
   pub before : Standing

@@ -1,5 +1,5 @@
 -- The dedup table with its two logs, as sorted lists: what it finds, and what one group's sync makes of it.
-use Rattle.std.specs.Prelude.{◌≡◌, ℕ, ◌+◌, ◌-◌, ◌/◌, ◌^◌, min, Bool, not, ◌&&◌, ◌||◌, ◌==◌, nat_lt, nat_le, List, [], ◌∷◌, length, filter, fold, take, drop, Option, Some, None, if◌then◌else◌}
+use Rattle.std.specs.Prelude.{◌≡◌, ℕ, ◌+◌, ◌-◌, ◌/◌, ◌^◌, min, Bool, true, not, ◌&&◌, ◌||◌, ◌==◌, nat_lt, nat_le, List, [], ◌∷◌, length, filter, fold, take, drop, Option, Some, None, if◌then◌else◌}
 use Rattle.std.specs.List.{AllByRecursion, find, last_or}
 use Rattle.std.specs.Option.{option_map}
 use Rattle.std.specs.Ordering.{is_eq, is_lt}
@@ -12,7 +12,8 @@ use Rattle.ddt_entry.specs.declared.entry.Change.{Change}
 use Rattle.ddt_entry.specs.declared.entry.Change.TheVariants as changes
 use Rattle.pool_model.specs.Pool.{Pool, Pointer, Pairwise, IsApart, run_length, since_of, tracked_at}
 
--- the stored table (homes with counts above 0), the two logs, each sorted by key, how long the active log has grown, and how far the flushing log has been flushed
+-- the stored table (homes with counts above 0), the two logs, each sorted by key, how long the active log has grown, and how far
+-- the flushing log has been flushed
 pub record TableState : Type 0 where
   pub zap : List Entry
   pub flush : List Change
@@ -22,6 +23,19 @@ pub record TableState : Type 0 where
 
 abbrev pub empty_table : TableState
 empty_table = record { zap = []; flush = []; active = []; age = 0; checkpoint = None }
+
+-- keys rise from entry to entry
+abbrev pub AreRising : List Entry → Type 0
+AreRising entries = Pairwise (λ (a b : Entry). is_lt (key_cmp a.key b.key) ≡ true) entries
+
+-- and from change to change
+abbrev pub AreChangesRising : List Change → Type 0
+AreChangesRising log = Pairwise (λ (a b : Change). is_lt (key_cmp (key_in a) (key_in b)) ≡ true) log
+
+-- whether the flushing log has been flushed past a key
+abbrev pub is_past : (checkpoint : Option Key) → Key → Bool
+is_past None key = true
+is_past (Some checkpoint) key = is_lt (key_cmp checkpoint key)
 
 -- the home that a change gives its key
 abbrev pub home_in : Change → Option Home
@@ -33,6 +47,16 @@ entry_at key entries = option_map (λ entry. entry.home) (find (λ entry. key_eq
 
 abbrev pub change_at : Key → List Change → Option Change
 change_at key log = find (λ change. key_eq (key_in change) key) log
+
+-- each list is sorted by key, the homes of the stored table are counted, no key is in both logs, and the flushing log is behind its
+-- checkpoint
+pub record IsTable (table : TableState) : Type 0 where
+  pub zap_rising : AreRising table.zap
+  pub zap_counted : AllByRecursion (λ entry. nat_lt 0 entry.home.count ≡ true) table.zap
+  pub flush_rising : AreChangesRising table.flush
+  pub active_rising : AreChangesRising table.active
+  pub logs_apart : AllByRecursion (λ change. change_at (key_in change) table.active ≡ None) table.flush
+  pub past : AllByRecursion (λ change. is_past table.checkpoint (key_in change) ≡ true) table.flush
 
 -- a change's home, or else what stands below it
 abbrev pub found_over : Option Home → Option Change → Option Home
@@ -46,7 +70,9 @@ found table key = found_over (found_over (entry_at key table.zap) (change_at key
 -- sorted entries, with this one in its key's place
 abbrev pub set_entry : Entry → List Entry → List Entry
 set_entry entry [] = entry ∷ []
-set_entry entry (e ∷ es) = if is_lt (key_cmp entry.key e.key) then entry ∷ e ∷ es else (if is_eq (key_cmp entry.key e.key) then entry ∷ es else e ∷ set_entry entry es)
+set_entry entry (e ∷ es) =
+    if is_lt (key_cmp entry.key e.key) then entry ∷ e ∷ es
+    else (if is_eq (key_cmp entry.key e.key) then entry ∷ es else e ∷ set_entry entry es)
 
 abbrev pub drop_entry : Key → List Entry → List Entry
 drop_entry key entries = filter (λ entry. not (key_eq entry.key key)) entries
@@ -54,7 +80,9 @@ drop_entry key entries = filter (λ entry. not (key_eq entry.key key)) entries
 -- sorted changes, with this one in its key's place
 abbrev pub set_change : Change → List Change → List Change
 set_change change [] = change ∷ []
-set_change change (c ∷ cs) = if is_lt (key_cmp (key_in change) (key_in c)) then change ∷ c ∷ cs else (if is_eq (key_cmp (key_in change) (key_in c)) then change ∷ cs else c ∷ set_change change cs)
+set_change change (c ∷ cs) =
+    if is_lt (key_cmp (key_in change) (key_in c)) then change ∷ c ∷ cs
+    else (if is_eq (key_cmp (key_in change) (key_in c)) then change ∷ cs else c ∷ set_change change cs)
 
 abbrev pub drop_change : Key → List Change → List Change
 drop_change key log = filter (λ change. not (key_eq (key_in change) key)) log
@@ -92,7 +120,8 @@ abbrev pub swap_keys : ℕ
 swap_keys = 1000
 
 abbrev pub is_due : TableState → Bool
-is_due table = (length table.flush == 0) && nat_lt 0 (length table.active) && (nat_le swap_keys (length table.active) || nat_le swap_age table.age)
+is_due table =
+    (length table.flush == 0) && nat_lt 0 (length table.active) && (nat_le swap_keys (length table.active) || nat_le swap_age table.age)
 
 abbrev pub aged : TableState → TableState
 aged table = record table { age = min (table.age + 1) (2 ^ 64 - 1) }
@@ -117,6 +146,10 @@ set_found entries (changes.Gone key) = drop_entry key entries
 
 abbrev pub entries_found : TableState → List Entry
 entries_found table = fold set_found (fold set_found table.zap table.flush) table.active
+
+-- those that are counted
+abbrev pub counted_homes : TableState → List Entry
+counted_homes table = filter (λ entry. nat_lt 0 entry.home.count) (entries_found table)
 
 -- those whose place is kept though no pointer is counted
 abbrev pub waiting_in : TableState → List Entry

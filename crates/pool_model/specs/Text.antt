@@ -99,7 +99,9 @@ quota_word None = codes "none"
 quota_word (Some limit) = decimal limit
 
 abbrev pub bucket_line : Bucket → List ℕ
-bucket_line bucket = line (codes "bucket" ∷ decimal bucket.low ∷ codes "keys" ∷ decimal bucket.keys ∷ codes "allocated" ∷ decimal bucket.allocated ∷ codes "referenced" ∷ decimal bucket.referenced ∷ [])
+bucket_line bucket =
+    line (codes "bucket" ∷ decimal bucket.low ∷ codes "keys" ∷ decimal bucket.keys ∷ codes "allocated" ∷ decimal bucket.allocated
+    ∷ codes "referenced" ∷ decimal bucket.referenced ∷ [])
 
 -- the buckets that have a key
 abbrev pub buckets_text : List Bucket → List ℕ

@@ -8,6 +8,11 @@
 //! Nothing in them knows of pages, logs on a disk, locks or threads; the crates above keep entries,
 //! trees and counters instead, and are proved to give what is said here.
 //!
+//! The laws of these definitions are lemmas in `proofs/`, which the crates above cite: of runs (`Steps`,
+//! `Settings`), of a group's turns (`Going`, `Writing`, `Counts`), of the table and its sync (`Synced`,
+//! `Waiting`, `Matching`, `Keys`), of the premise on clashes (`Clashes`, `Kept`), and of lists (`Lists`,
+//! `Members`, `Sorted`).
+//!
 //! The types in `src/` are the plain data that all crates speak of: commands, answers, notes of what a
 //! group did, and statistics. Those that hold a list are seen through a mirror without the list's spare
 //! room, in `specs/Plain.antt`.

@@ -4,8 +4,7 @@ use Rattle.std.specs.List.{range_with_len}
 use Rattle.std.proofs.lemmas.List.Sums.{sum_by-cons}
 use Rattle.ddt_entry.specs.declared.key.Key.{Key}
 use Rattle.ddt_entry.specs.Keys.{key_eq}
-use Rattle.pool_model.specs.Pool.{Pool, Pointer, Mark, plain, tracked, loose, with_key, keys_in, count_at, tracks}
-use Rattle.pool_model.specs.Pool.{is_tracked as is_tracked_mark, is_loose as is_loose_mark, is_plain as is_plain_mark}
+use Rattle.pool_model.specs.Pool.{Pool, Pointer, Mark, plain, tracked, loose, with_key, keys_in, count_at, tracks, is_tracked as is_tracked_mark, is_loose as is_loose_mark, is_plain as is_plain_mark}
 use Rattle.pool_model.specs.Stats.{stats_of, bucket_of, is_in_bucket}
 use Rattle.pool_model.specs.declared.stats.Bucket.{Bucket}
 use Rattle.pool_stats.specs.Counts.{tracked_keys, count_of, key_counts, bucket_in, stats_in}

@@ -1,6 +1,5 @@
 -- A lane's commands that are left, with the answers that are left.
-use Rattle.std.proofs.Common.{◌≡◌, ◌≢◌, ◌+◌, ◌<◌, ℕ, List, ◌∷◌, length, drop, slice_index_or, map, ap, ◌∙◌, sym}
-use Rattle.std.proofs.Common.{eq-eqb, Bool, cond}
+use Rattle.std.proofs.Common.{◌≡◌, ◌≢◌, ◌+◌, ◌<◌, ℕ, List, ◌∷◌, length, drop, slice_index_or, map, ap, ◌∙◌, sym, eq-eqb, Bool, cond}
 use Rattle.std.proofs.lemmas.Bool.{ne_eqb}
 use Rattle.std.proofs.lemmas.List.{drop_more}
 use Rattle.std.specs.List.{flat_map, zip}

@@ -16,10 +16,11 @@ use Rattle.pool_model.specs.Run.{Room, NotesRun, ended_items, last_standing, pag
 use Rattle.pool_model.specs.Crash.{AnyStands, StandsAt, begun, begun_item, begun_group, begun_by}
 use Rattle.pool_model.specs.Text.{report}
 use Rattle.pool_model.proofs.Laws.{report-append}
-use Rattle.run_laws.specs.Items.{AreAmong}
-use Rattle.run_laws.proofs.Items.{none_begun, last_standing-append, ended-append, begun-append, run-append}
-use Rattle.run_laws.proofs.Stands.{any_left, any_right, at_right}
-use Rattle.run_laws.proofs.Clashes.{all_left, all_right, all_from, no_other_among, contents_of_item}
+use Rattle.pool_model.specs.Waiting.{AreAmong}
+use Rattle.pool_model.proofs.Steps.{none_begun, last_standing-append, ended-append, begun-append, run-append}
+use Rattle.pool_model.proofs.Stands.{any_left, any_right, at_right}
+use Rattle.pool_model.proofs.Clashes.{no_other_among, contents_of_item}
+use Rattle.pool_model.proofs.Lists.{all_front, all_back, all_from}
 use Rattle.table_state.specs.Pools.{Held}
 use Rattle.session.specs.Crashing.{Holds}
 use Rattle.session.specs.Entries.{IsOver, HasNoClashFrom}
@@ -41,8 +42,8 @@ trusted_by_modes s at e stat = refl
 trusted_by_modes s at e «import» = refl
 
 trusted_item : (P : List ℕ → Type 0) (s : Standing) (done rest : List Part) (part : Part) → AllByRecursion P (flat_map (part_trusted s.pool) (done ++ part ∷ rest)) → AllByRecursion P (part_trusted s.pool part)
-trusted_item P s [] rest part all = all_left P (part_trusted s.pool part) (flat_map (part_trusted s.pool) rest) all
-trusted_item P s (d ∷ done) rest part all = trusted_item P s done rest part (all_right P (part_trusted s.pool d) (flat_map (part_trusted s.pool) (done ++ part ∷ rest)) all)
+trusted_item P s [] rest part all = all_front P (part_trusted s.pool part) (flat_map (part_trusted s.pool) rest) all
+trusted_item P s (d ∷ done) rest part all = trusted_item P s done rest part (all_back P (part_trusted s.pool d) (flat_map (part_trusted s.pool) (done ++ part ∷ rest)) all)
 
 -- no two contents of the next item clash where it begins
 pub no_clash_now : (key_of : List ℕ → Key) (s at : Standing) (parts done rest : List Part) (part : Part) → parts ≡ done ++ part ∷ rest → at.pool.modes ≡ s.pool.modes

@@ -11,7 +11,7 @@ use Rattle.pool_model.specs.Run.{pages_since}
 use Rattle.pool_model.specs.Space.{need, free_count, space_lacking, changes_in, writes_in}
 use Rattle.pool_model.specs.Table.{TableState, flush_limit}
 use Rattle.table_state.specs.Pools.{Held, IsHeld}
-use Rattle.held_laws.proofs.NamedPages.{pages_apart, pages_inside, pages_nameless}
+use Rattle.table_state.proofs.NamedPages.{pages_apart, pages_inside, pages_nameless}
 use Rattle.session.specs.Items.{room_from}
 
 module _ (image : Image) (held : Held) (s : Standing) (is : IsHeld image held s.pool s.table) where

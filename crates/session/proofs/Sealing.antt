@@ -19,7 +19,7 @@ use Rattle.pool_model.specs.Run.{Order, kind_of, pages_since, sealed_standing}
 use Rattle.pool_model.specs.Crash.{AnyStands, StandsAt, has_its_lanes, begun_by, begun_item, begun}
 use Rattle.table_state.specs.Flat.{StandsFor}
 use Rattle.table_state.specs.Pools.{Held}
-use Rattle.run_laws.proofs.Kept.{clash_kept}
+use Rattle.pool_model.proofs.Kept.{clash_kept}
 use Rattle.txg_sync.specs.Placing.{pages_of}
 use Rattle.txg_sync.specs.Planning.{Group}
 use Rattle.txg_sync.specs.Syncing.{table_after, records_after, Syncs, SyncLeaves, CanSyncOver}

@@ -13,7 +13,7 @@ use Rattle.pool_model.specs.Plain.{Part}
 use Rattle.pool_model.specs.Group.{Standing, lane_by_lane}
 use Rattle.pool_model.specs.Run.{last_standing, NotesRun}
 use Rattle.pool_model.specs.Crash.{AnyStands, StandsAt, begun}
-use Rattle.run_laws.proofs.Stands.{any_left, at_last}
+use Rattle.pool_model.proofs.Stands.{any_left, at_last}
 use Rattle.table_state.specs.Pools.{Held}
 use Rattle.session.specs.Crashing.{Holds, SameFound, MayHold}
 use Rattle.session.specs.Items.{room_from}

@@ -20,7 +20,7 @@ use Rattle.table_state.specs.SlotRecords.{slot_bytes}
 use Rattle.table_state.specs.Tables.{unique_in, duplicate_in}
 use Rattle.table_state.specs.declared.slot_record.SlotRecord.{SlotRecord}
 use Rattle.ddt_entry.specs.Records.{record_bytes}
-use Rattle.held_laws.proofs.NamedPages.{image_pages_are}
+use Rattle.table_state.proofs.NamedPages.{image_pages_are}
 use Rattle.txg_sync.specs.Placing.{pages_of}
 use Rattle.txg_sync.specs.Planning.{Group}
 use Rattle.txg_sync.specs.Syncing.{group_pool, table_after, records_after, Syncs, SyncLeaves}

@@ -7,14 +7,13 @@ use Rattle.ddt_entry.specs.declared.key.Key.{Key}
 use Rattle.pool_model.specs.Plain.{Part, Told}
 use Rattle.pool_model.specs.Clash.{HasNoOther, contents}
 use Rattle.pool_model.specs.Group.{Standing, lane_by_lane}
-use Rattle.pool_model.specs.Run.{NotesRun, ended_items, last_standing}
+use Rattle.pool_model.specs.Run.{NotesRun, ended_items, last_standing, pages_since}
 use Rattle.pool_model.specs.Crash.{AnyStands, begun}
 use Rattle.pool_model.specs.Text.{report}
 use Rattle.table_state.specs.Pools.{Held}
 use Rattle.session.specs.Crashing.{Holds}
 use Rattle.session.specs.Entries.{IsOver, HasNoClashFrom}
 use Rattle.session.specs.Items.{room_from}
-use Rattle.pool_model.specs.Run.{pages_since}
 
 -- these items were done, from this standing on: their notes are a run's, the pool in memory is over what stands now, their texts were written, and a crash left what stood or what they began
 pub record IsGoing {D : Type 0} (clock : D → ℕ) (left_since : D → ℕ → Image → Type 0) (may_leave : D → Image → Type 0) (seen : D → Option Image) (start now : D)

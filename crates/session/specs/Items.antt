@@ -14,7 +14,7 @@ use Rattle.pool_model.specs.Group.{Standing, lane_by_lane}
 use Rattle.pool_model.specs.Run.{Room, RoomOn, pages_since, kind_of, given_by, AnswersPart, IsGroupNote, NotesRun, ended_items, last_standing}
 use Rattle.pool_model.specs.Crash.{AnyStands, StandsAt, begun}
 use Rattle.pool_model.specs.Text.{report}
-use Rattle.run_laws.specs.Items.{AreAmong}
+use Rattle.pool_model.specs.Waiting.{AreAmong}
 use Rattle.table_state.specs.Pools.{Held}
 use Rattle.session.specs.Crashing.{Holds}
 use Rattle.session.specs.Entries.{IsOver}

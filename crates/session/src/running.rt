@@ -1,10 +1,9 @@
-ghost use Rattle.std.specs.Prelude.{◌≡◌, ◌≤◌, ◌+◌, ◌-◌, ◌^◌, ◌<◌, ◌++◌, ◌∷◌, [], ℕ, List, min, map, take, length, Some, None, OnOk, OnErr, IsErrOf, IfOk};
+ghost use Rattle.std.specs.Prelude.{◌≡◌, ◌≤◌, ◌+◌, ◌-◌, ◌^◌, ◌<◌, ◌++◌, ◌∷◌, [], ℕ, List, min, map, take, length, Some, None, OnOk, OnErr, IsErrOf, IfOk, ◌↔◌, string_bytes};
 ghost use Rattle.std.specs.List.{AllByRecursion};
-ghost use Rattle.std.specs.Prelude.{◌↔◌, string_bytes};
 ghost use Rattle.disk_model.specs.Crashes.{NothingPending};
 ghost use Rattle.cmd_file.specs.Items.{IsItem, AreItems};
 ghost use Rattle.session.specs.Words.{running_words};
-ghost use Rattle.session.specs.Running.{IsUntouched, ItemsRanOver, RanOver, IsOfDevices, BeforeDevices, HasStatusCause, ReadSo};
+ghost use Rattle.session.specs.Running.{IsUntouched, ItemsRanOver, RanOver, IsOfDevices, BeforeDevices, HasStatusCause, ReadSo, told_in, faults_in, RoseBeyond, WentOn, IsOfItems};
 ghost use Rattle.session.specs.declared.words.Word.{Word};
 ghost use Rattle.io_model.specs.Outside.{Rose};
 ghost use Rattle.disk_model.specs.Images.{Image};
@@ -12,7 +11,6 @@ ghost use Rattle.pool_model.specs.Plain.{part_of};
 ghost use Rattle.session.specs.Entries.{IsOnDisk, last_start};
 ghost use Rattle.session.specs.Going.{GoesOn};
 ghost use Rattle.session.specs.Stopping.{StopsIn};
-ghost use Rattle.session.specs.Running.{told_in, faults_in, RoseBeyond, WentOn, IsOfItems};
 ghost use Rattle.session.specs.declared.status.Status.{Status};
 
 use crate::item::do_item;

@@ -1,10 +1,9 @@
 -- An image whose newest seal is that of a new pool stands for the empty pool.
-use Rattle.std.proofs.Common.{◌≡◌, ℕ, suc, ◌≤◌, ◌-◌, Bool, true, false, ◌||◌, List, [], ◌∷◌, Some, length, map, refl, ap, ◌∙◌, arith}
+use Rattle.std.proofs.Common.{◌≡◌, ℕ, suc, ◌≤◌, ◌-◌, Bool, true, false, ◌||◌, List, [], ◌∷◌, Some, length, map, refl, ap, ◌∙◌, arith, eq-eqb}
 use Rattle.std.specs.Prelude.{nat_le, nat_lt}
 use Rattle.std.specs.List.{range_with_len}
 use Rattle.std.proofs.lemmas.Bool.{and_from, lt-ltb}
 use Rattle.std.proofs.lemmas.Bool.Decides.{nat_tests}
-use Rattle.std.proofs.Common.{eq-eqb}
 use Rattle.disk_model.specs.Images.{Image}
 use Rattle.page_tree.specs.Pointers.{null_pointer}
 use Rattle.page_tree.specs.Chains.{walk}
@@ -12,11 +11,13 @@ use Rattle.uber_ring.specs.Ring.{newest}
 use Rattle.grant_book.specs.Sectors.{ring_used}
 use Rattle.grant_book.proofs.MarkLaws.{length-ring_used, ring_used-at}
 use Rattle.pool_model.specs.Pool.{empty_pool}
+use Rattle.pool_model.specs.Run.{first_standing}
 use Rattle.pool_model.specs.Space.{is_used, used_sectors}
 use Rattle.pool_model.specs.Table.{empty_table}
 use Rattle.table_state.specs.SealForms.{new_seal, is_formed, fewest_sectors, most_sectors, has_size}
 use Rattle.table_state.specs.Flat.{Flat, StandsFor, Reads, flat_version}
 use Rattle.table_state.specs.Pools.{IsHeld, new_held}
+use Rattle.table_state.specs.Holding.{StandsOver}
 use Rattle.table_state.specs.Sound.{IsSound}
 
 nothing : Flat
@@ -134,6 +135,19 @@ new_is_sound tag sectors enough few = record {
   used_len = length-ring_used sectors;
   ring = λ sector within. ring_used-at sectors sector true (omega (arith, within, enough)) ∙ lt-ltb sector 32 within;
   slots_within = tt;
+  slots_rising = tt;
   within = record { zap = tt; flush = tt; active = tt };
   lengths = record { zap = tt; flush = tt; active = tt };
+  sorted = record { zap_rising = tt; zap_counted = tt; flush_rising = tt; active_rising = tt; logs_apart = tt; past = tt };
+  counts = λ key home found. absurd (cc found);
+}
+
+-- and is what stands over the image of a new pool
+pub new_stands_over : (tag sectors : ℕ) (image : Image) → fewest_sectors ≤ sectors → sectors ≤ most_sectors → sectors ≤ length image
+    → newest flat_version image ≡ Some (new_seal tag sectors) → StandsOver image (new_held tag sectors) (first_standing sectors)
+new_stands_over tag sectors image enough few there seals = record {
+  is_held = new_is_held tag sectors image enough few there seals;
+  sectors = refl;
+  pages = refl;
+  waiting = λ key home found none. absurd (cc found);
 }

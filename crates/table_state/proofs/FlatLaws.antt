@@ -80,11 +80,18 @@ one_flat image seal flat flat' one other =
     (one_list right same_ok flat.flushing flat'.flushing (sym one.flushing_spelled ∙ ap (map change_in) fifth.1 ∙ other.flushing_spelled))
     fifth.0
 
--- an image stands for one pool with one table
-pub one_state : (tag : ℕ) (image : Image) (pool pool' : Pool) (table table' : TableState) → StandsFor tag image pool table → StandsFor tag image pool' table' → (pool ≡ pool') × (table ≡ table')
-one_state tag image pool pool' table table' one other =
-    let seals : one.seal ≡ other.seal = same_some one.seal other.seal (sym one.counts ∙ other.counts) in
-    let flats : one.flat ≡ other.flat = one_flat image other.seal one.flat other.flat (subst (λ (s : Seal). IsRead image s one.flat) seals one.read) other.read in (
-      one.pool_is ∙ ap (λ (s : Seal). pool_in image s one.flat) seals ∙ ap (pool_in image other.seal) flats ∙ sym other.pool_is,
-      one.table_is ∙ ap (λ (s : Seal). table_in s one.flat) seals ∙ ap (table_in other.seal) flats ∙ sym other.table_is,
-    )
+-- by one seal, with one content of its chains, whatever it stands for
+module _ (tag : ℕ) (image : Image) (pool pool' : Pool) (table table' : TableState) (one : StandsFor tag image pool table)
+    (other : StandsFor tag image pool' table') where
+  pub one_seal : one.seal ≡ other.seal
+  one_seal = same_some one.seal other.seal (sym one.counts ∙ other.counts)
+
+  pub one_keeping : one.flat ≡ other.flat
+  one_keeping = one_flat image other.seal one.flat other.flat (subst (λ (s : Seal). IsRead image s one.flat) one_seal one.read) other.read
+
+  -- an image stands for one pool with one table
+  pub one_state : (pool ≡ pool') × (table ≡ table')
+  one_state = (
+    one.pool_is ∙ ap (λ (s : Seal). pool_in image s one.flat) one_seal ∙ ap (pool_in image other.seal) one_keeping ∙ sym other.pool_is,
+    one.table_is ∙ ap (λ (s : Seal). table_in s one.flat) one_seal ∙ ap (table_in other.seal) one_keeping ∙ sym other.table_is,
+  )

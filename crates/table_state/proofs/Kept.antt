@@ -207,3 +207,16 @@ module _ (image c : Image) (count : length c ≡ length image) where
     read = read_kept state.seal state.flat state.read pages;
     pool_is = state.pool_is ∙ ap (λ (ps : List Pointer). record { pointers = ps; modes = modes_in state.seal; quota = quota_in state.seal; group = state.seal.group }) (pointers_kept image c (table_in state.seal state.flat) state.flat.slots blocks);
   }
+
+  -- by the same seal, with the same content of its chains
+  module _ (tag : ℕ) (pool : Pool) (table : TableState) (state : StandsFor tag image pool table)
+      (seals : newest flat_version c ≡ newest flat_version image) (pages : SameIn image c state.flat.named)
+      (blocks : AllByRecursion (λ slot. sector_at c slot.pointer.place ≡ sector_at image slot.pointer.place) state.flat.slots)
+    where
+      pub seal_kept : (state_kept tag pool table state seals pages blocks).seal ≡ state.seal
+      unfolding state_kept
+      seal_kept = refl
+
+      pub flat_kept : (state_kept tag pool table state seals pages blocks).flat ≡ state.flat
+      unfolding state_kept
+      flat_kept = refl

@@ -15,9 +15,8 @@ use Rattle.uber_ring.specs.Seals.{FitsSeal}
 use Rattle.uber_ring.specs.declared.seal.Seal.{Seal}
 use Rattle.pool_model.specs.declared.commands.Mode.{Mode}
 use Rattle.pool_model.specs.declared.commands.Mode.TheVariants.{Off, On, Verify}
-use Rattle.pool_model.specs.Table.{TableState}
+use Rattle.pool_model.specs.Table.{TableState, counted_homes}
 use Rattle.table_state.specs.SealForms.{fewest_sectors, most_sectors, last_group, is_flag, has_group, has_size, has_flags, is_formed, mode_in, mode_byte, modes_in, quota_in, checkpoint_in, slots_root, unique_root, duplicate_root, active_root, flushing_root}
-use Rattle.table_state.specs.Flat.{counted_homes}
 use Rattle.table_state.specs.Sealed.{seal_of, flag_of, quota_number, checkpoint_len, checkpoint_digest}
 use Rattle.table_state.proofs.SlotLaws.{AreBytes-replicate}
 

@@ -11,7 +11,7 @@ use Rattle.table_state.specs.SlotRecords.{is_slot, FitsSlot}
 use Rattle.table_state.specs.Pools.{is_slot_at, insert_slot, slot_with, set_slot, slots_after}
 use Rattle.table_state.specs.Sealed.{changed_slot, ChangesSlotWithin}
 use Rattle.table_state.specs.declared.slot_record.SlotRecord.{SlotRecord}
-use Rattle.table_state.proofs.Lists.{all_from, all_filter, all_tested, pairs_filter, length-filter-le}
+use Rattle.pool_model.proofs.Lists.{all_from, all_filter, all_tested, pairs_filter, length-filter-le}
 use Rattle.table_state.proofs.SlotLaws.{is_slot-from, is_slot-true}
 
 -- ---- The order of slots

@@ -13,7 +13,7 @@ use Rattle.page_tree.specs.Chains.{record_len}
 use Rattle.table_state.specs.SlotRecords.{slot_bytes, slot_in, is_slot, FitsSlot}
 use Rattle.table_state.specs.Sealed.{entry_bytes}
 use Rattle.table_state.specs.declared.slot_record.SlotRecord.{SlotRecord}
-use Rattle.table_state.proofs.Lists.{all_from_both}
+use Rattle.pool_model.proofs.Lists.{all_from_both}
 use Rattle.table_state.proofs.SlotLaws.{written as slot_written, is_slot-from, length-slot}
 
 -- ---- Of each element

@@ -12,13 +12,13 @@ use Rattle.ddt_entry.specs.declared.entry.Entry.{Entry}
 use Rattle.ddt_entry.specs.declared.entry.Change.{Change}
 use Rattle.ddt_entry.proofs.KeyLaws.{key_eq-symm}
 use Rattle.uber_ring.specs.declared.seal.Seal.{Seal}
-use Rattle.pool_model.specs.Table.{TableState, entry_at, change_at, set_entry}
+use Rattle.pool_model.specs.Table.{TableState, entry_at, change_at, set_entry, AreRising, is_past, IsTable, AreChangesRising}
 use Rattle.table_state.specs.SealForms.{checkpoint_in}
-use Rattle.table_state.specs.Flat.{Flat, HoldTogether, AreRising, IsWithin, IsChangeWithin, last_changes, is_past, is_missing, table_in}
-use Rattle.table_state.specs.Tables.{IsTable, IsTableWithin, AreChangesRising, unique_in, duplicate_in}
-use Rattle.table_state.proofs.Lists.{all_from, all_from_both, all_each, all_filter, all_tested, filter_whole, pairs_filter, pairs_from, classes_apart, none_found}
-use Rattle.table_state.proofs.Sorted.{rising_fold, all_fold, fold_back, split_back}
-use Rattle.table_state.proofs.TablePuts.{entries_put, changes_put, apart_by_order}
+use Rattle.table_state.specs.Flat.{Flat, HoldTogether, IsWithin, IsChangeWithin, last_changes, is_missing, table_in}
+use Rattle.table_state.specs.Tables.{IsTableWithin, unique_in, duplicate_in}
+use Rattle.pool_model.proofs.Lists.{all_from, all_from_both, all_each, all_filter, all_tested, filter_whole, pairs_filter, pairs_from, classes_apart, none_found}
+use Rattle.pool_model.proofs.Sorted.{rising_fold, all_fold, fold_back, split_back}
+use Rattle.pool_model.proofs.TablePuts.{entries_put, changes_put, apart_by_order}
 
 missing_none : (o : Option Change) → is_missing o ≡ true → o ≡ None
 missing_none None missing = refl

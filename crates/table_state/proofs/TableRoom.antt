@@ -9,9 +9,9 @@ use Rattle.ddt_entry.specs.declared.entry.Change.TheVariants as changes
 use Rattle.page_tree.specs.Chains.{pages_for}
 use Rattle.pool_model.specs.Table.{TableState, set_entry, drop_entry, log_change, logged, flush_entry, flushed, is_due, aged, swapped, flush_limit, sync_table}
 use Rattle.table_state.specs.Tables.{unique_in, duplicate_in, table_pages}
-use Rattle.table_state.proofs.Lists.{filter_whole, all_each, passing_filter, length-filter-le}
-use Rattle.table_state.proofs.Sorted.{passing_put, length-put}
-use Rattle.table_state.proofs.TablePuts.{entries_put, changes_put}
+use Rattle.pool_model.proofs.Lists.{filter_whole, all_each, passing_filter, length-filter-le}
+use Rattle.pool_model.proofs.Sorted.{passing_put, length-put}
+use Rattle.pool_model.proofs.TablePuts.{entries_put, changes_put}
 
 -- ---- The stored table
 

@@ -25,10 +25,10 @@ use Rattle.table_state.specs.Flat.{pointer_of}
 use Rattle.table_state.specs.Pools.{pool_after, with_blocks}
 use Rattle.table_state.specs.SlotRecords.{is_slot}
 use Rattle.table_state.specs.declared.slot_record.SlotRecord.{SlotRecord}
-use Rattle.table_state.proofs.Lists.{all_from, all_filter}
+use Rattle.pool_model.proofs.Lists.{all_from, all_filter}
 use Rattle.table_state.proofs.SlotLaws.{is_slot-from}
-use Rattle.table_state.proofs.Sorted.{all_put}
-use Rattle.table_state.proofs.TablePuts.{entries_put}
+use Rattle.pool_model.proofs.Sorted.{all_put}
+use Rattle.pool_model.proofs.TablePuts.{entries_put}
 
 -- ---- Runs of one sector
 

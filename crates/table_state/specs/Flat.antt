@@ -2,11 +2,8 @@
 -- chains keep the slots, the two classes of the stored table, and the two logs.
 use Rattle.std.specs.Prelude.{◌≡◌, ℕ, ◌<◌, ◌≤◌, ◌^◌, ⊤, Bool, true, false, ◌&&◌, ◌||◌, ◌==◌, nat_lt, List, [], length, take, map, fold, filter, sum_by, Option, Some, None, Ok, if◌then◌else◌}
 use Rattle.std.specs.List.{AllByRecursion, list_any}
-use Rattle.std.specs.Ordering.{is_lt}
-use Rattle.ddt_entry.specs.Keys.{key_cmp}
 use Rattle.ddt_entry.specs.Changes.{key_in}
 use Rattle.ddt_entry.specs.Records.{change_in}
-use Rattle.ddt_entry.specs.declared.key.Key.{Key}
 use Rattle.ddt_entry.specs.declared.entry.Home.{Home}
 use Rattle.ddt_entry.specs.declared.entry.Entry.{Entry}
 use Rattle.ddt_entry.specs.declared.entry.Change.{Change}
@@ -19,7 +16,7 @@ use Rattle.page_tree.specs.declared.pointer.PagePtr.{PagePtr}
 use Rattle.uber_ring.specs.Ring.{newest}
 use Rattle.uber_ring.specs.declared.seal.Seal.{Seal}
 use Rattle.pool_model.specs.Pool.{Pool, Pointer, Mark, plain, tracked, loose, Pairwise, IsWellFormed}
-use Rattle.pool_model.specs.Table.{TableState, entry_at, set_entry, set_change, change_at, found, Matches, waiting_in, entries_found}
+use Rattle.pool_model.specs.Table.{TableState, entry_at, set_entry, set_change, change_at, found, AreRising, is_past, counted_homes, Matches, waiting_in}
 use Rattle.table_state.specs.SealForms.{is_formed, modes_in, quota_in, checkpoint_in, slots_root, unique_root, duplicate_root, active_root, flushing_root}
 use Rattle.table_state.specs.SlotRecords.{slot_in}
 use Rattle.table_state.specs.declared.slot_record.SlotRecord.{SlotRecord}
@@ -76,10 +73,6 @@ abbrev pub IsChangeWithin : (sectors group : ℕ) → Change → Type 0
 IsChangeWithin sectors group (changes.Entry entry) = IsWithin sectors group entry
 IsChangeWithin sectors group (changes.Gone key) = ⊤
 
--- keys rise from entry to entry
-abbrev pub AreRising : List Entry → Type 0
-AreRising entries = Pairwise (λ (a b : Entry). is_lt (key_cmp a.key b.key) ≡ true) entries
-
 -- slots rise by lane and slot
 abbrev pub stands_before : SlotRecord → SlotRecord → Bool
 stands_before a b = nat_lt a.lane b.lane || ((a.lane == b.lane) && nat_lt a.slot b.slot)
@@ -104,23 +97,20 @@ pub record HoldTogether (seal : Seal) (flat : Flat) : Type 0 where
 abbrev pub last_changes : List Change → List Change
 last_changes log = fold (λ sorted change. set_change change sorted) [] log
 
--- whether the flushing log has been flushed past a key
-abbrev pub is_past : Option Key → Key → Bool
-is_past None key = true
-is_past (Some checkpoint) key = is_lt (key_cmp checkpoint key)
-
 abbrev pub is_missing : Option Change → Bool
 is_missing None = true
 is_missing (Some change) = false
 
--- the table: both classes as one, and of each log the last change of a key; of the flushing log only what is not flushed yet and the active log doesn't name
+-- the table: both classes as one, and of each log the last change of a key; of the flushing log only what is not flushed yet and the
+-- active log doesn't name
 abbrev pub table_in : Seal → Flat → TableState
 table_in seal flat =
     let active : List Change = last_changes flat.active in
     record {
       zap = fold (λ entries entry. set_entry entry entries) flat.unique flat.duplicate;
       active = active;
-      flush = filter (λ change. is_past (checkpoint_in seal) (key_in change) && is_missing (change_at (key_in change) active)) (last_changes flat.flushing);
+      flush = filter (λ change. is_past (checkpoint_in seal) (key_in change) && is_missing (change_at (key_in change) active))
+          (last_changes flat.flushing);
       age = seal.age;
       checkpoint = checkpoint_in seal;
     }
@@ -154,10 +144,6 @@ pool_in image seal flat = record {
   quota = quota_in seal;
   group = seal.group;
 }
-
--- the homes that are counted
-abbrev pub counted_homes : TableState → List Entry
-counted_homes table = filter (λ entry. nat_lt 0 entry.home.count) (entries_found table)
 
 -- no block lies in a page's sector
 abbrev pub IsClear : (named : List ℕ) → (place : ℕ) → Type 0

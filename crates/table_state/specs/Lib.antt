@@ -1,7 +1,10 @@
 pub mod Flat
 pub mod SealForms
 pub mod SlotRecords
+pub mod Slots
 pub mod Pools
 pub mod Tables
 pub mod Sealed
 pub mod Sound
+pub mod Holding
+pub mod Closing

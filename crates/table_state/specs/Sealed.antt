@@ -17,11 +17,11 @@ use Rattle.pool_model.specs.declared.commands.Mode.{Mode}
 use Rattle.pool_model.specs.declared.closed.SlotChange.{SlotChange}
 use Rattle.pool_model.specs.Pool.{Pool, Pairwise, IsWellFormed}
 use Rattle.pool_model.specs.Plain.{Stored}
-use Rattle.pool_model.specs.Table.{TableState, Matches, waiting_in}
+use Rattle.pool_model.specs.Table.{TableState, Matches, waiting_in, counted_homes, IsTable}
 use Rattle.table_state.specs.SealForms.{mode_byte, fewest_sectors, most_sectors, last_group}
 use Rattle.table_state.specs.SlotRecords.{slot_bytes, is_slot, FitsSlot}
-use Rattle.table_state.specs.Flat.{Flat, flat_version, counted_homes, stands_before, IsClear}
-use Rattle.table_state.specs.Tables.{IsTable, IsTableWithin, unique_in, duplicate_in}
+use Rattle.table_state.specs.Flat.{Flat, flat_version, stands_before, IsClear}
+use Rattle.table_state.specs.Tables.{IsTableWithin, unique_in, duplicate_in}
 use Rattle.table_state.specs.Pools.{with_blocks}
 use Rattle.table_state.specs.declared.slot_record.SlotRecord.{SlotRecord}
 

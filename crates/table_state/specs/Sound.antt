@@ -1,10 +1,14 @@
 -- What holds of a pool in memory whatever the disk tells: its numbers are in their ranges.
-use Rattle.std.specs.Prelude.{◌≡◌, ◌<◌, ◌≤◌, ℕ, true, length, slice_index_or}
+use Rattle.std.specs.Prelude.{◌≡◌, ◌<◌, ◌≤◌, ℕ, true, length, slice_index_or, Some}
 use Rattle.std.specs.List.{AllByRecursion}
 use Rattle.ddt_entry.specs.Changes.{key_in}
 use Rattle.ddt_entry.specs.Records.{IsKeyLength}
 use Rattle.ddt_entry.specs.declared.entry.Change.{Change}
-use Rattle.pool_model.specs.Table.{TableState}
+use Rattle.ddt_entry.specs.declared.key.Key.{Key}
+use Rattle.ddt_entry.specs.declared.entry.Home.{Home}
+use Rattle.pool_model.specs.Pool.{Pairwise}
+use Rattle.pool_model.specs.Table.{TableState, IsTable, found}
+use Rattle.table_state.specs.Flat.{stands_before}
 use Rattle.table_state.specs.Pools.{Held}
 use Rattle.table_state.specs.SealForms.{fewest_sectors, most_sectors, last_group}
 use Rattle.table_state.specs.SlotRecords.{is_slot}
@@ -27,5 +31,8 @@ pub record IsSound (held : Held) : Type 0 where
   pub used_len : length held.used ≡ held.sectors
   pub ring : (sector : ℕ) → sector < 32 → slice_index_or held.used sector true ≡ true
   pub slots_within : AllByRecursion (λ slot. is_slot held.sectors held.group slot ≡ true) held.slots
+  pub slots_rising : Pairwise (λ a b. stands_before a b ≡ true) held.slots
   pub within : IsTableWithin held.sectors held.group held.table
   pub lengths : HasKeyLengths held.table
+  pub sorted : IsTable held.table
+  pub counts : (key : Key) (home : Home) → found held.table key ≡ Some home → home.count ≤ length held.slots

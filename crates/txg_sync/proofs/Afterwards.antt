@@ -1,8 +1,8 @@
 -- What an image stands for once a group's gate is open.
 use Rattle.std.proofs.Common.{◌≡◌, ℕ, zero, suc, ◌+◌, ◌^◌, ◌≤◌, Bool, true, false, ◌||◌, ◌==◌, List, [], ◌∷◌, Some, length, map, refl, sym, ap, subst, ◌∙◌, ⊎_elim, arith}
 use Rattle.std.proofs.lemmas.Bool.Decides.{eqb_tells}
-use Rattle.table_state.proofs.Lists.{all_from}
-use Rattle.std.specs.Prelude.{slice_index_or}
+use Rattle.pool_model.proofs.Lists.{all_from, all_from_both}
+use Rattle.std.specs.Prelude.{slice_index_or, take}
 use Rattle.std.specs.List.{AllByRecursion, list_any, range_with_len}
 use Rattle.std.proofs.lemmas.Bool.{lt-ltb}
 use Rattle.std.proofs.lemmas.List.{length-map}
@@ -16,23 +16,25 @@ use Rattle.page_tree.specs.Chains.{AreOpen}
 use Rattle.pool_model.specs.Pool.{Pool, Pointer, Pairwise}
 use Rattle.pool_model.specs.Plain.{Stored}
 use Rattle.pool_model.specs.Space.{is_used, used_sectors}
-use Rattle.pool_model.specs.Table.{TableState, waiting_in}
-use Rattle.table_state.specs.Flat.{Flat, StandsFor, IsClear, stands_before, pointer_of, table_in}
+use Rattle.pool_model.specs.Table.{TableState, found, waiting_in, IsTable}
+use Rattle.table_state.specs.Flat.{Flat, StandsFor, IsClear, IsWithin, IsChangeWithin, stands_before, pointer_of}
+use Rattle.table_state.specs.Holding.{Holds, StandsOver, WaitingStand}
 use Rattle.table_state.specs.Pools.{Held, IsHeld, slots_after, pool_after, with_blocks}
 use Rattle.table_state.specs.SealForms.{last_group}
 use Rattle.table_state.specs.SlotRecords.{is_slot, FitsSlot}
 use Rattle.table_state.specs.Sound.{IsSound, HasKeyLengths}
 use Rattle.table_state.specs.Sealed.{ChainPart, places_in, records_in, roots_of, seal_of, flat_of, CanBeKept, AreParts, CanStand, IsSealedImage}
-use Rattle.table_state.specs.Tables.{IsTable, IsTableWithin}
+use Rattle.table_state.specs.Tables.{IsTableWithin}
 use Rattle.table_state.specs.declared.slot_record.SlotRecord.{SlotRecord}
 use Rattle.table_state.proofs.SlotLaws.{is_slot-from}
 use Rattle.table_state.proofs.SlotsAfter.{rising_after, within_after, within_later}
 use Rattle.table_state.proofs.Stands.{sealed_stands, sealed_by, sealed_keeps}
-use Rattle.table_state.proofs.Syncing.{sync_keeps, sync_within, sync_lengths, sync_checkpoint}
-use Rattle.table_state.proofs.TableBack.{is_table_in}
-use Rattle.table_state.proofs.UsedLaws.{used_same}
-use Rattle.txg_sync.specs.Planning.{Group, IsPlan}
-use Rattle.txg_sync.specs.Syncing.{CanSync, IsInRange, IsNamed, table_after, group_pool}
+use Rattle.table_state.proofs.Syncing.{sync_within, sync_lengths}
+use Rattle.table_state.proofs.UsedLaws.{all_waiting, used_same}
+use Rattle.pool_model.proofs.Waiting.{waiting_has}
+use Rattle.pool_model.proofs.Syncing.{sync_keeps, sync_checkpoint}
+use Rattle.table_state.specs.Closing.{PlainClosed, CanSync, IsInRange, IsNamed, table_after, pool_with, standing_with}
+use Rattle.txg_sync.specs.Planning.{IsPlan}
 use Rattle.txg_sync.specs.Writing.{IsSealed, with_roots}
 use Rattle.txg_sync.proofs.Outcomes.{apart_from_unused}
 
@@ -89,21 +91,27 @@ made_held c next pool table tag same =
       sectors_are = sectors;
     })
 
-module _ (held : Held) (group : Group) (sound : IsSound held) (range : IsInRange held group) (last : held.group + 1 ≤ last_group) (next : Held) (parts : List ChainPart) (seal : Seal) (plan : IsPlan held group next parts seal) where
+module _ (held : Held) (closed : PlainClosed) (sound : IsSound held) (range : IsInRange held closed) (last : held.group + 1 ≤ last_group)
+    (next : Held) (parts : List ChainPart) (seal : Seal) (plan : IsPlan held closed next parts seal) where
   abbrev slots' : List SlotRecord
-  slots' = slots_after group.slots held.slots
+  slots' = slots_after closed.slots held.slots
 
   abbrev table' : TableState
-  table' = table_after held group
+  table' = table_after held closed
 
   within' : AllByRecursion (λ slot. is_slot held.sectors (held.group + 1) slot ≡ true) slots'
-  within' = within_after held.sectors (held.group + 1) group.slots held.slots range.slots (within_later held.sectors held.group (held.group + 1) (omega arith) held.slots sound.slots_within)
+  within' =
+      within_after held.sectors (held.group + 1) closed.slots held.slots range.slots
+      (within_later held.sectors held.group (held.group + 1) (omega arith) held.slots sound.slots_within)
 
   table_within' : IsTableWithin held.sectors (held.group + 1) table'
-  table_within' = sync_within held.sectors held.group (held.group + 1) group.log held.table (omega arith) sound.within range.changes
+  table_within' = sync_within held.sectors held.group (held.group + 1) closed.log held.table (omega arith) sound.within range.changes
 
   lengths' : HasKeyLengths table'
-  lengths' = sync_lengths group.log held.table sound.lengths range.lengths
+  lengths' = sync_lengths closed.log held.table sound.lengths range.lengths
+
+  sorted' : IsTable table'
+  sorted' = sync_keeps closed.log held.table sound.sorted
 
   open' : AreOpen held.sectors [] (places_in parts)
   open' = subst (λ n. AreOpen n [] (places_in parts)) sound.used_len plan.placed.places_open
@@ -127,22 +135,27 @@ module _ (held : Held) (group : Group) (sound : IsSound held) (range : IsInRange
     within =
         subst (IsTableWithin next.sectors next.group) (sym plan.is_next.table_is)
         (subst (λ n. IsTableWithin n next.group table') (sym plan.is_next.sectors_are) (subst (λ n. IsTableWithin held.sectors n table') (sym plan.is_next.group_is) table_within'));
+    slots_rising =
+        subst (λ (s : List SlotRecord). Pairwise (λ a b. stands_before a b ≡ true) s) (sym plan.is_next.slots_are)
+        (rising_after closed.slots held.slots sound.slots_rising);
+    sorted = subst IsTable (sym plan.is_next.table_is) sorted';
     lengths = subst HasKeyLengths (sym plan.is_next.table_is) lengths';
+    counts = λ key home there.
+        subst (λ (s : List SlotRecord). home.count ≤ length s) (sym plan.is_next.slots_are)
+        (range.counts key home (ap (λ (t : TableState). found t key) (sym plan.is_next.table_is) ∙ there));
   }
     where
       bare : Pool
-      bare = pool_after [] [] next.slots next.table group.modes group.quota (held.group + 1)
+      bare = pool_after [] [] next.slots next.table closed.modes closed.quota (held.group + 1)
 
       any_ring : (a b c d : Bool) → a ≡ true → (a || b || c || d) ≡ true
       any_ring true b c d e = refl
       any_ring false b c d e = absurd (cc e)
 
-  module _ (image : Image) (there : held.sectors ≤ length image) (small : length image ≤ 2 ^ 64) (can : CanSync image held group) (spelt : AreSpelt next.slots next.table) where
+  module _ (image : Image) (there : held.sectors ≤ length image) (small : length image ≤ 2 ^ 64) (can : CanSync image held closed)
+      (spelt : AreSpelt next.slots next.table) where
     abbrev pool' : Pool
-    pool' = group_pool image held group
-
-    held_table : held.table ≡ table_in can.is_held.stands.seal can.is_held.stands.flat
-    held_table = can.is_held.table_is ∙ can.is_held.stands.table_is
+    pool' = pool_with image held closed
 
     spelt' : AreSpelt slots' table'
     spelt' = subst (λ (t : TableState). AreSpelt slots' t) plan.is_next.table_is (subst (λ (s : List SlotRecord). AreSpelt s next.table) plan.is_next.slots_are spelt)
@@ -154,9 +167,9 @@ module _ (held : Held) (group : Group) (sound : IsSound held) (range : IsInRange
       first = omega arith;
       last = last;
       slots_within = within';
-      slots_rising = rising_after group.slots held.slots (subst (λ (s : List SlotRecord). Pairwise (λ a b. stands_before a b ≡ true) s) (sym can.is_held.slots_are) can.is_held.stands.whole.slots_rising);
+      slots_rising = rising_after closed.slots held.slots sound.slots_rising;
       slots_fit = spelt'.slots_fit;
-      sorted = sync_keeps group.log held.table (subst IsTable (sym held_table) (is_table_in can.is_held.stands.seal can.is_held.stands.flat can.is_held.stands.whole));
+      sorted = sorted';
       within = table_within';
       zap_fits = spelt'.zap;
       flush_fits = spelt'.flush;
@@ -164,7 +177,7 @@ module _ (held : Held) (group : Group) (sound : IsSound held) (range : IsInRange
       zap_lengths = lengths'.zap;
       flush_lengths = lengths'.flush;
       active_lengths = lengths'.active;
-      checkpoint = sync_checkpoint group.log held.table;
+      checkpoint = sync_checkpoint closed.log held.table;
     }
 
     are_parts : AreParts held.sectors slots' table' parts
@@ -175,34 +188,55 @@ module _ (held : Held) (group : Group) (sound : IsSound held) (range : IsInRange
     }
 
     -- no page lies where a block is named
-    clear_if_named : (place : ℕ) → IsNamed held.used group.contents place → IsClear (places_in parts) place
+    clear_if_named : (place : ℕ) → IsNamed held.used closed.contents place → IsClear (places_in parts) place
     clear_if_named place named =
         ⊎_elim
         (λ used. apart_from_unused held.used (places_in parts) place plan.placed.unused (default_true held.used place used))
-        (λ block. no_block_at group.contents (places_in parts) place plan.placed.no_block block)
+        (λ block. no_block_at closed.contents (places_in parts) place plan.placed.no_block block)
         named
 
     clear_slots : AllByRecursion (λ (slot : SlotRecord). IsClear (places_in parts) slot.pointer.place) slots'
-    clear_slots = all_from (λ (slot : SlotRecord). IsNamed held.used group.contents slot.pointer.place) (λ (slot : SlotRecord). IsClear (places_in parts) slot.pointer.place) (λ slot named. clear_if_named slot.pointer.place named) slots' can.pointers_named
+    clear_slots =
+        all_from (λ (slot : SlotRecord). IsNamed held.used closed.contents slot.pointer.place)
+        (λ (slot : SlotRecord). IsClear (places_in parts) slot.pointer.place) (λ slot named. clear_if_named slot.pointer.place named) slots'
+        can.pointers_named
+
+    clear_waiting : AllByRecursion (λ (entry : Entry). IsClear (places_in parts) entry.home.place) (waiting_in table')
+    clear_waiting =
+        all_from (λ (entry : Entry). IsNamed held.used closed.contents entry.home.place)
+        (λ (entry : Entry). IsClear (places_in parts) entry.home.place) (λ entry named. clear_if_named entry.home.place named)
+        (waiting_in table') can.waiting_named
+
+    waiting_after_ring : AllByRecursion (IsWithin held.sectors (held.group + 1)) (waiting_in table')
+    waiting_after_ring =
+        all_waiting (IsWithin held.sectors (held.group + 1)) (IsChangeWithin held.sectors (held.group + 1)) (λ entry within. within) table'
+        table_within'.zap table_within'.flush table_within'.active
 
     can_stand : CanStand held.sectors (places_in parts) pool' table'
     can_stand = record {
       well_formed = can.well_formed;
       matches = can.matches;
-      pointers_clear = mapped_slots (IsClear (places_in parts)) (with_blocks group.contents image) table' slots' clear_slots;
-      waiting_clear = all_from (λ (entry : Entry). IsNamed held.used group.contents entry.home.place) (λ (entry : Entry). IsClear (places_in parts) entry.home.place) (λ entry named. clear_if_named entry.home.place named) (waiting_in table') can.waiting_named;
+      pointers_clear = mapped_slots (IsClear (places_in parts)) (with_blocks closed.contents image) table' slots' clear_slots;
+      waiting_clear = clear_waiting;
     }
 
-    module _ (slot : ℕ) (c : Image) (sealed : IsSealed slot group.contents parts (with_roots seal parts) image c) where
-      rooted : with_roots seal parts ≡ seal_of held.tag held.sectors (held.group + 1) group.modes group.quota table' (roots_of parts) (length (places_in parts))
-      rooted = plan.seal_is (roots_of parts) ∙ ap (λ (t : TableState). seal_of held.tag held.sectors (held.group + 1) group.modes group.quota t (roots_of parts) (length (places_in parts))) plan.is_next.table_is
+    module _ (slot : ℕ) (c : Image) (sealed : IsSealed slot closed.contents parts (with_roots seal parts) image c) where
+      rooted : with_roots seal parts
+          ≡ seal_of held.tag held.sectors (held.group + 1) closed.modes closed.quota table' (roots_of parts) (length (places_in parts))
+      rooted =
+          plan.seal_is (roots_of parts)
+          ∙ ap (λ (t : TableState). seal_of held.tag held.sectors (held.group + 1) closed.modes closed.quota t (roots_of parts)
+          (length (places_in parts))) plan.is_next.table_is
 
-      is_image : IsSealedImage held.tag held.sectors (held.group + 1) image c slots' table' group.modes group.quota group.contents parts
+      is_image : IsSealedImage held.tag held.sectors (held.group + 1) image c slots' table' closed.modes closed.quota closed.contents parts
       is_image = record {
         counts = sealed.counts ∙ ap Some rooted;
         there = omega (arith, there, sealed.only.count);
         held = sealed.held;
-        blocks = two (λ (s : SlotRecord). is_slot held.sectors (held.group + 1) s ≡ true) (λ (s : SlotRecord). IsClear (places_in parts) s.pointer.place) (λ (s : SlotRecord). sector_at c s.pointer.place ≡ sector_at (with_blocks group.contents image) s.pointer.place)
+        blocks =
+            two (λ (s : SlotRecord). is_slot held.sectors (held.group + 1) s ≡ true)
+            (λ (s : SlotRecord). IsClear (places_in parts) s.pointer.place)
+            (λ (s : SlotRecord). sector_at c s.pointer.place ≡ sector_at (with_blocks closed.contents image) s.pointer.place)
             (λ s is clear. sealed.blocks s.pointer.place (is_slot-from held.sectors (held.group + 1) s is).place.0 clear) slots' within' clear_slots;
       }
 
@@ -211,22 +245,32 @@ module _ (held : Held) (group : Group) (sound : IsSound held) (range : IsInRange
 
       -- the image stands for the pool after the group
       pub stands_after : StandsFor held.tag c pool' table'
-      stands_after = sealed_stands held.tag held.sectors (held.group + 1) slots' table' group.modes group.quota can_keep image c group.contents parts are_parts can_stand size is_image
+      stands_after =
+          sealed_stands held.tag held.sectors (held.group + 1) slots' table' closed.modes closed.quota can_keep image c closed.contents
+          parts are_parts can_stand size is_image
 
       kept_flat : stands_after.flat ≡ flat_of slots' table' (places_in parts)
       unfolding stands_after
-      kept_flat = sealed_keeps held.tag held.sectors (held.group + 1) slots' table' group.modes group.quota can_keep image c group.contents parts are_parts can_stand size is_image
+      kept_flat =
+          sealed_keeps held.tag held.sectors (held.group + 1) slots' table' closed.modes closed.quota can_keep image c closed.contents parts
+          are_parts can_stand size is_image
 
-      kept_seal : stands_after.seal ≡ seal_of held.tag held.sectors (held.group + 1) group.modes group.quota table' (roots_of parts) (length (places_in parts))
+      kept_seal : stands_after.seal
+          ≡ seal_of held.tag held.sectors (held.group + 1) closed.modes closed.quota table' (roots_of parts) (length (places_in parts))
       unfolding stands_after
-      kept_seal = sealed_by held.tag held.sectors (held.group + 1) slots' table' group.modes group.quota can_keep image c group.contents parts are_parts can_stand size is_image
+      kept_seal =
+          sealed_by held.tag held.sectors (held.group + 1) slots' table' closed.modes closed.quota can_keep image c closed.contents parts
+          are_parts can_stand size is_image
 
       used' : next.used ≡ used_sectors next.sectors next.pages pool' table'
       used' =
           plan.is_next.used_are
-          ∙ ap (λ (s : List SlotRecord). used_sectors held.sectors (places_in parts) (pool_after [] [] s next.table group.modes group.quota (held.group + 1)) next.table) plan.is_next.slots_are
-          ∙ ap (λ (t : TableState). used_sectors held.sectors (places_in parts) (pool_after [] [] slots' t group.modes group.quota (held.group + 1)) t) plan.is_next.table_is
-          ∙ used_same held.sectors (places_in parts) slots' table' [] image [] group.contents group.modes group.modes group.quota group.quota (held.group + 1) (held.group + 1)
+          ∙ ap (λ (s : List SlotRecord). used_sectors held.sectors (places_in parts)
+          (pool_after [] [] s next.table closed.modes closed.quota (held.group + 1)) next.table) plan.is_next.slots_are
+          ∙ ap (λ (t : TableState). used_sectors held.sectors (places_in parts)
+          (pool_after [] [] slots' t closed.modes closed.quota (held.group + 1)) t) plan.is_next.table_is
+          ∙ used_same held.sectors (places_in parts) slots' table' [] image [] closed.contents closed.modes closed.modes closed.quota
+          closed.quota (held.group + 1) (held.group + 1)
           ∙ ap (λ n. used_sectors n (places_in parts) pool' table') (sym plan.is_next.sectors_are)
           ∙ ap (λ (ps : List ℕ). used_sectors next.sectors ps pool' table') (sym plan.is_next.pages_are)
 
@@ -238,3 +282,32 @@ module _ (held : Held) (group : Group) (sound : IsSound held) (range : IsInRange
           (plan.is_next.pages_are ∙ ap (λ (f : Flat). f.named) (sym kept_flat))
           (plan.is_next.sectors_are ∙ ap (λ (s : Seal). s.sectors) (sym kept_seal))
           plan.is_next.table_is used' plan.is_next.modes_are plan.is_next.quota_is plan.is_next.group_is
+
+      waiting_stand : WaitingStand c (standing_with image held closed (places_in parts))
+      waiting_stand key home there none =
+          waiting_has (λ (e : Entry). take e.key.len (sector_at (with_blocks closed.contents image) e.home.place) ≡ take e.key.len
+          (sector_at c e.home.place))
+          table' key home sorted' there none
+          (all_from_both (IsWithin held.sectors (held.group + 1)) (λ (e : Entry). IsClear (places_in parts) e.home.place)
+          (λ (e : Entry). take e.key.len (sector_at (with_blocks closed.contents image) e.home.place) ≡ take e.key.len
+          (sector_at c e.home.place))
+          (λ e within clear. ap (take e.key.len) (sym (sealed.blocks e.home.place within.place clear))) (waiting_in table')
+          waiting_after_ring clear_waiting)
+
+      -- so the image holds what stands after the group
+      pub holds_after : Holds held.tag c (standing_with image held closed (places_in parts))
+      holds_after = record {
+        state = stands_after;
+        sectors = ap (λ (s : Seal). s.sectors) kept_seal;
+        pages = ap (λ (f : Flat). f.named) kept_flat;
+        waiting = waiting_stand;
+      }
+
+      -- and the pool in memory is over it
+      pub over_after : StandsOver c next (standing_with image held closed next.pages)
+      over_after = record {
+        is_held = held_after;
+        sectors = plan.is_next.sectors_are;
+        pages = refl;
+        waiting = waiting_stand;
+      }

@@ -1,5 +1,5 @@
 -- What the stages of the first seal leave.
-use Rattle.std.proofs.Common.{◌≡◌, ℕ, ◌<◌, ◌≤◌, Some, None, ◌∙◌, ap, sym, inl, inr, ⊎_elim, arith}
+use Rattle.std.proofs.Common.{◌≡◌, ℕ, ◌<◌, ◌≤◌, Some, None, ◌∙◌, ap, sym, subst, inl, inr, ⊎_elim, arith}
 use Rattle.std.specs.Prelude.{slice_set}
 use Rattle.disk_model.specs.Images.{Image, IsImage, Torn}
 use Rattle.disk_model.proofs.Sectors.{IsImage-torn, Torn-set}
@@ -12,8 +12,12 @@ use Rattle.uber_ring.proofs.SealLaws.{length-body_bytes}
 use Rattle.uber_ring.proofs.Written.{behind_written, behind_kept, gate_opened}
 use Rattle.table_state.specs.SealForms.{new_seal, fewest_sectors, most_sectors}
 use Rattle.table_state.specs.Flat.{flat_version}
-use Rattle.table_state.proofs.Created.{stands_for_empty}
-use Rattle.txg_sync.specs.Stages.{TakingLeaves, IsTaken, SameOutside, Beginning, Begun}
+use Rattle.pool_model.specs.Run.{first_standing}
+use Rattle.table_state.specs.Holding.{Holds}
+use Rattle.table_state.specs.Pools.{new_held}
+use Rattle.table_state.proofs.Created.{new_stands_over}
+use Rattle.table_state.proofs.Held.{holds_over}
+use Rattle.txg_sync.specs.Stages.{TakingLeaves, IsTaken, SameOutside, Unbegun, Beginning, Begun}
 
 -- where no seal counts, no slot shows one
 none_shown : (image : Image) (slot : ℕ) → slot < slot_count → newest flat_version image ≡ None → seal_at flat_version image slot ≡ None
@@ -27,9 +31,9 @@ module _ (tag sectors : ℕ) (image : Image) (is : IsImage sectors image) (none 
       (⊎_elim (λ gone. gone) (λ same. same ∙ none_shown image 1 (omega arith) none) (taking.own flat_version))
 
   -- taking the slot
-  pub beginning_taking : (c : Image) → TakingLeaves 1 image c → Beginning tag image c
-  beginning_taking c taking = record {
-    shows = inl (still_none c taking);
+  pub unbegun_taking : (c : Image) → TakingLeaves 1 image c → Unbegun image c
+  unbegun_taking c taking = record {
+    none = still_none c taking;
     outside = record { count = taking.torn.count; others = λ at gate body. taking.torn.others at gate };
   }
 
@@ -45,8 +49,8 @@ module _ (tag sectors : ℕ) (image : Image) (is : IsImage sectors image) (none 
     }
 
     -- writing the body
-    pub beginning_body : (c : Image) → BodyTorn 1 taken c → Beginning tag image c
-    beginning_body c written = record { shows = inl (none_behind c written); outside = outside_body c written.torn }
+    pub unbegun_body : (c : Image) → BodyTorn 1 taken c → Unbegun image c
+    unbegun_body c written = record { none = none_behind c written; outside = outside_body c written.torn }
 
     module _ (enough : fewest_sectors ≤ sectors) (few : sectors ≤ most_sectors) (fits : FitsSeal (new_seal tag sectors)) where
       abbrev filled : Image
@@ -78,7 +82,10 @@ module _ (tag sectors : ℕ) (image : Image) (is : IsImage sectors image) (none 
           let counts = newest_begins flat_version 1 filled c (omega arith) opening.elsewhere (new_seal tag sectors) none_filled shown in
           record {
             counts = counts ∙ ap (λ n. Some (new_seal tag n)) (sym is.count);
-            empty = stands_for_empty tag sectors c enough few (omega (arith, opening.torn.count, is_filled.count)) counts;
+            new =
+                subst (λ n. Holds tag c (first_standing n)) (sym is.count)
+                (holds_over c (new_held tag sectors) (first_standing sectors)
+                (new_stands_over tag sectors c enough few (omega (arith, opening.torn.count, is_filled.count)) counts));
             outside = outside_gate c opening.torn;
           }
 
@@ -92,7 +99,7 @@ module _ (tag sectors : ℕ) (image : Image) (is : IsImage sectors image) (none 
           })
           (λ shown.
           let done = begun c opening (shown ∙ seal_behind) in
-          record { shows = inr done.empty; outside = done.outside })
+          record { shows = inr done.new; outside = done.outside })
           (opening.own flat_version)
 
       -- once it is open

@@ -6,7 +6,7 @@ use Rattle.disk_model.specs.Images.{Image, IsImage, Torn, sector_at}
 use Rattle.disk_model.proofs.Sectors.{IsImage-torn, Torn-set, sector_at-set, sector_at-set_other}
 use Rattle.std.proofs.lemmas.Bool.{cases_eq, ne_eqb}
 use Rattle.std.proofs.lemmas.List.{length-set}
-use Rattle.table_state.proofs.Lists.{all_from, all_front, all_back}
+use Rattle.pool_model.proofs.Lists.{all_from, all_front, all_back}
 use Rattle.page_tree.specs.Chains.{SameBut}
 use Rattle.page_tree.proofs.ChainBack.{writes_at_places}
 use Rattle.uber_ring.specs.Seals.{FitsSeal, body_bytes, open_gate, is_open}
@@ -22,7 +22,8 @@ use Rattle.table_state.specs.Flat.{flat_version}
 use Rattle.table_state.specs.Pools.{with_blocks, put_block, block_sector}
 use Rattle.table_state.specs.Sealed.{ChainPart, places_in, HoldsParts}
 use Rattle.txg_sync.specs.Stages.{TakingLeaves, IsTaken}
-use Rattle.txg_sync.specs.Writing.{block_places, group_places, IsStored, IsUnsealed, IsSealed, MayBeSealed}
+use Rattle.table_state.specs.Closing.{block_places}
+use Rattle.txg_sync.specs.Writing.{group_places, IsStored, IsUnsealed, IsSealed, MayBeSealed}
 
 -- slots that show the same show the same highest one
 highest_same : (f g : ℕ → Option Seal) (count : ℕ) → ((slot : ℕ) → slot < count → f slot ≡ g slot) → highest f count ≡ highest g count

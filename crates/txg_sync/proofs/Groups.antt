@@ -3,7 +3,7 @@ use Rattle.std.proofs.Common.{◌≡◌, ℕ, zero, suc, ◌<◌, ◌≤◌, Lis
 use Rattle.std.specs.Prelude.{slice_set}
 use Rattle.std.specs.List.{AllByRecursion}
 use Rattle.disk_model.specs.Images.{Image, IsImage, TellsImage, Holds}
-use Rattle.disk_model.specs.Crashes.{LeavesOnly, NothingPending}
+use Rattle.disk_model.specs.Crashes.{DiskState, LeavesOnly, NothingPending}
 use Rattle.disk_model.proofs.Moments.{and_then, weakened}
 use Rattle.page_tree.specs.Chains.{SameBut, ChainLeaves, AreOpen}
 use Rattle.page_tree.proofs.OpenPlaces.{is_open-parts}
@@ -17,7 +17,8 @@ use Rattle.pool_model.specs.Plain.{Stored, stored_of}
 use Rattle.table_state.specs.Flat.{flat_version}
 use Rattle.table_state.specs.Sealed.{ChainPart, places_in, roots_of}
 use Rattle.txg_sync.specs.Stages.{TakingLeaves, IsTaken, Takes, IsFilled, Fills}
-use Rattle.txg_sync.specs.Writing.{block_places, group_places, with_roots, StoresParts, IsUnsealed, MayBeSealed, Seals, FollowsSeal}
+use Rattle.table_state.specs.Closing.{block_places}
+use Rattle.txg_sync.specs.Writing.{group_places, with_roots, StoresParts, IsUnsealed, MayBeSealed, Seals, FollowsSeal}
 use Rattle.txg_sync.proofs.Filling.{AreBehindRing, unsealed_taking, unsealed_stored, unsealed_body, sealed_gate, sealed_opened}
 use Rattle.txg_sync.proofs.Sealing.{holds_some, only_told}
 
@@ -95,7 +96,8 @@ module _ (sectors : ℕ) (enough : fewest_sectors ≤ sectors) (seal : Seal) (co
         sealed_opened seal.group sectors image is enough follows.0 follows.1 follows.2 contents parts behind_ring on_disk f.taken f.is_taken f.stored f.is_stored.only f.is_stored rooted f.fits refl own_version (subst (λ n. IsImage n f.stored) is.count f.whole),
       )
 
-  module _ {D : Type 0} (clock : D → ℕ) (left_since : D → ℕ → Image → Type 0) (may_leave : D → Image → Type 0) (seen : D → Option Image) (image : Image) (old : D) (told : seen old ≡ Some image) (tells : TellsImage sectors (seen old)) (follows_old : FollowsSeal seal.group (seen old)) where
+  module _ (image : Image) (old : DiskState) (told : old.seen ≡ Some image) (tells : TellsImage sectors old.seen)
+      (follows_old : FollowsSeal seal.group old.seen) where
     is : IsImage sectors image
     is = subst (λ (o : Option Image). TellsImage sectors o) told tells
 
@@ -109,58 +111,69 @@ module _ (sectors : ℕ) (enough : fewest_sectors ≤ sectors) (seal : Seal) (co
     Either = MayBeSealed slot contents parts rooted image
 
     -- where the gate was not reached
-    pub group_unsealed : (filled : D) → LeavesOnly clock left_since old filled Before → LeavesOnly clock left_since old filled Either
-    group_unsealed filled run = weakened clock left_since old filled Before Either run (λ c unsealed. inl unsealed)
+    pub group_unsealed : {filled : DiskState} → LeavesOnly old filled Before → LeavesOnly old filled Either
+    group_unsealed run = weakened Either run (λ c unsealed. inl unsealed)
 
     -- while the gate is opened
-    pub group_opening : (own_version : seal.version ≡ flat_version) (filled new : D) → LeavesOnly clock left_since old filled Before → Fills contents parts rooted (seen old) (seen filled) → NothingPending (seen filled) (may_leave filled)
-        → LeavesOnly clock left_since filled new (OpeningLeaves slot (may_leave filled)) → LeavesOnly clock left_since old new Either
-    group_opening own_version filled new filling fills still opening =
-        and_then clock left_since old filled new Either (group_unsealed filled filling)
-        (weakened clock left_since filled new (OpeningLeaves slot (may_leave filled)) Either opening each)
+    pub group_opening : (own_version : seal.version ≡ flat_version) {filled new : DiskState} → LeavesOnly old filled Before
+        → Fills contents parts rooted old.seen filled.seen → NothingPending filled.seen filled.may_leave
+        → LeavesOnly filled new (OpeningLeaves slot filled.may_leave) → LeavesOnly old new Either
+    group_opening own_version {filled} filling fills still opening =
+        and_then (group_unsealed filling)
+        (weakened Either opening each)
       where
-        fills_here : Fills contents parts rooted (Some image) (seen filled)
-        fills_here = subst (λ (o : Option Image). Fills contents parts rooted o (seen filled)) told fills
+        fills_here : Fills contents parts rooted (Some image) filled.seen
+        fills_here = subst (λ (o : Option Image). Fills contents parts rooted o filled.seen) told fills
 
         f : IsFilled contents parts rooted image fills_here.0
         f = fills_here.2
 
-        each : (c : Image) → OpeningLeaves slot (may_leave filled) c → Either c
+        each : (c : Image) → OpeningLeaves slot filled.may_leave c → Either c
         each c from =
             sealed_gate seal.group sectors image is enough follows.0 follows.1 follows.2 contents parts behind_ring on_disk f.taken f.is_taken f.stored f.is_stored.only f.is_stored rooted f.fits refl own_version
             (subst (λ n. IsImage n f.stored) is.count f.whole) c
-            (subst (λ (d : Image). GateTorn slot d c) (only_told _ (seen filled) (may_leave filled) (fills_here.1 ∙ ap (λ (d : Image). Some d) f.body) still from.0 from.1) from.2)
+            (subst (λ (d : Image). GateTorn slot d c)
+            (only_told _ filled.seen filled.may_leave (fills_here.1 ∙ ap (λ (d : Image). Some d) f.body) still from.0 from.1) from.2)
 
     -- while the slot is taken
-    pub group_taking : (mid : D) → LeavesOnly clock left_since old mid (TakingLeaves slot image) → LeavesOnly clock left_since old mid Before
-    group_taking mid run =
-        weakened clock left_since old mid (TakingLeaves slot image) Before run (λ c taking. (unsealed_taking seal.group sectors image is enough follows.0 follows.1 follows.2 contents parts behind_ring on_disk c taking))
+    pub group_taking : {mid : DiskState} → LeavesOnly old mid (TakingLeaves slot image) → LeavesOnly old mid Before
+    group_taking run =
+        weakened Before run (λ c taking.
+        (unsealed_taking seal.group sectors image is enough follows.0 follows.1 follows.2 contents parts behind_ring on_disk c taking))
 
-    module _ (mid : D) (taking : LeavesOnly clock left_since old mid (TakingLeaves slot image)) (takes : Takes slot (seen old) (seen mid)) (still : NothingPending (seen mid) (may_leave mid)) where
-      taken : (taken : Image) × (seen mid ≡ Some taken) × IsTaken slot image taken
-      taken = subst (λ (o : Option Image). Takes slot o (seen mid)) told takes
+    module _ {mid : DiskState} (taking : LeavesOnly old mid (TakingLeaves slot image)) (takes : Takes slot old.seen mid.seen)
+        (still : NothingPending mid.seen mid.may_leave) where
+      taken : (taken : Image) × (mid.seen ≡ Some taken) × IsTaken slot image taken
+      taken = subst (λ (o : Option Image). Takes slot o mid.seen) told takes
 
       -- while blocks and pages are written
-      pub group_storing : (later : D) → LeavesOnly clock left_since mid later (ChainLeaves (group_places contents parts) (may_leave mid)) → LeavesOnly clock left_since old later Before
-      group_storing later storing =
-          and_then clock left_since old mid later Before (group_taking mid taking)
-          (weakened clock left_since mid later (ChainLeaves (group_places contents parts) (may_leave mid)) Before storing
+      pub group_storing : {later : DiskState} → LeavesOnly mid later (ChainLeaves (group_places contents parts) mid.may_leave)
+          → LeavesOnly old later Before
+      group_storing storing =
+          and_then (group_taking taking)
+          (weakened Before storing
           (λ c from. (unsealed_stored seal.group sectors image is enough follows.0 follows.1 follows.2 contents parts behind_ring on_disk taken.0 taken.2 c (stored_from c from))))
         where
-          stored_from : (c : Image) → ChainLeaves (group_places contents parts) (may_leave mid) c → SameBut (group_places contents parts) taken.0 c
-          stored_from c from = subst (λ (d : Image). SameBut (group_places contents parts) d c) (only_told taken.0 (seen mid) (may_leave mid) taken.1 still from.0 from.1) from.2
+          stored_from : (c : Image) → ChainLeaves (group_places contents parts) mid.may_leave c
+              → SameBut (group_places contents parts) taken.0 c
+          stored_from c from =
+              subst (λ (d : Image). SameBut (group_places contents parts) d c)
+              (only_told taken.0 mid.seen mid.may_leave taken.1 still from.0 from.1) from.2
 
-      module _ (later : D) (storing : LeavesOnly clock left_since mid later (ChainLeaves (group_places contents parts) (may_leave mid))) (at_end : (c : Image) → may_leave later c → ChainLeaves (group_places contents parts) (may_leave mid) c)
+      module _ {later : DiskState} (storing : LeavesOnly mid later (ChainLeaves (group_places contents parts) mid.may_leave))
+          (at_end : (c : Image) → later.may_leave c → ChainLeaves (group_places contents parts) mid.may_leave c)
           (sealed : Seal) (is_sealed : sealed ≡ with_roots seal parts) (fits : FitsSeal sealed) where
         -- while the body is written
-        pub group_filling : (filled : D) → LeavesOnly clock left_since later filled (WritingLeaves (slot_of sealed.group) (may_leave later)) → LeavesOnly clock left_since old filled Before
-        group_filling filled filling =
-            and_then clock left_since old later filled Before (group_storing later storing)
-            (weakened clock left_since later filled (WritingLeaves (slot_of sealed.group) (may_leave later)) Before filling each)
+        pub group_filling : {filled : DiskState} → LeavesOnly later filled (WritingLeaves (slot_of sealed.group) later.may_leave)
+            → LeavesOnly old filled Before
+        group_filling filling =
+            and_then (group_storing storing)
+            (weakened Before filling each)
           where
-            each : (c : Image) → WritingLeaves (slot_of sealed.group) (may_leave later) c → Before c
+            each : (c : Image) → WritingLeaves (slot_of sealed.group) later.may_leave c → Before c
             each c from =
                 let earlier = at_end from.0 from.1 in
                 (unsealed_body seal.group sectors image is enough follows.0 follows.1 follows.2 contents parts behind_ring on_disk taken.0 taken.2 from.0
-                (subst (λ (d : Image). SameBut (group_places contents parts) d from.0) (only_told taken.0 (seen mid) (may_leave mid) taken.1 still earlier.0 earlier.1) earlier.2)
+                (subst (λ (d : Image). SameBut (group_places contents parts) d from.0)
+                (only_told taken.0 mid.seen mid.may_leave taken.1 still earlier.0 earlier.1) earlier.2)
                 c (subst (λ (s : Seal). BodyTorn (slot_of s.group) from.0 c) is_sealed from.2))

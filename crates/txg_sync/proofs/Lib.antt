@@ -9,6 +9,7 @@ pub mod Groups
 pub mod Outcomes
 pub mod Afterwards
 pub mod PlannedLimits
+pub mod FewHomes
 pub mod PlannedRecords
 pub mod PlannedSlots
 pub mod PlannedSeals

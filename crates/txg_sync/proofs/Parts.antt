@@ -13,7 +13,7 @@ use Rattle.page_tree.proofs.ChainBack.{writes_are_held, writes_behind_others}
 use Rattle.page_tree.proofs.OpenPlaces.{is_open-parts, open_places-below, open_places-parts}
 use Rattle.page_tree.specs.declared.pointer.PagePtr.{PagePtr}
 use Rattle.table_state.specs.Sealed.{ChainPart, part_chain, places_in, roots_of, HoldsParts}
-use Rattle.table_state.proofs.Lists.{all_front, all_back}
+use Rattle.pool_model.proofs.Lists.{all_front, all_back}
 use Rattle.txg_sync.specs.Writing.{HoldsSince}
 
 -- ---- Places that are open

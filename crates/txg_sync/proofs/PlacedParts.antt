@@ -14,9 +14,9 @@ use Rattle.page_tree.proofs.OpenPlaces.{IsOpen, open_places-from}
 use Rattle.pool_model.specs.Plain.{Stored}
 use Rattle.reserved_list.specs.Listed.{Listed}
 use Rattle.table_state.specs.Sealed.{ChainPart, places_in}
-use Rattle.table_state.proofs.Lists.{all_from}
-use Rattle.txg_sync.specs.Placing.{pages_of, parts_of, ArePlaced}
-use Rattle.txg_sync.specs.Writing.{block_places}
+use Rattle.pool_model.proofs.Lists.{all_from}
+use Rattle.table_state.specs.Closing.{pages_of, block_places}
+use Rattle.txg_sync.specs.Placing.{parts_of, ArePlaced}
 
 -- ---- How many pages
 

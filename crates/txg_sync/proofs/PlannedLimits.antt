@@ -9,12 +9,12 @@ use Rattle.ddt_entry.specs.declared.entry.Entry.{Entry}
 use Rattle.ddt_entry.specs.declared.entry.Change.{Change}
 use Rattle.ddt_entry.specs.declared.entry.Change.TheVariants as changes
 use Rattle.page_tree.specs.Chains.{pages_for}
-use Rattle.pool_model.specs.Table.{TableState, set_found, entries_found}
+use Rattle.pool_model.specs.Table.{TableState, set_found, entries_found, IsTable}
 use Rattle.table_state.specs.Flat.{IsWithin, IsChangeWithin}
-use Rattle.table_state.specs.Tables.{IsTable, IsTableWithin, unique_in, duplicate_in, table_pages}
-use Rattle.table_state.proofs.Lists.{all_from, all_filter, fold_keeps, length-filter-le}
-use Rattle.table_state.proofs.Sorted.{all_put, length-put}
-use Rattle.table_state.proofs.TablePuts.{entries_put}
+use Rattle.table_state.specs.Tables.{IsTableWithin, unique_in, duplicate_in, table_pages}
+use Rattle.pool_model.proofs.Lists.{all_from, all_filter, fold_keeps, length-filter-le}
+use Rattle.pool_model.proofs.Sorted.{all_put, length-put}
+use Rattle.pool_model.proofs.TablePuts.{entries_put}
 
 module _ (sectors group : ℕ) where
   -- a change in range leaves homes in range

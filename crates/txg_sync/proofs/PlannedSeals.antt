@@ -4,7 +4,7 @@ use Rattle.std.proofs.Math.Seq.{take-length}
 use Rattle.std.proofs.lemmas.List.{map_more, take_more_set}
 use Rattle.std.proofs.lemmas.List.Elements.{All-filter}
 use Rattle.ddt_entry.specs.declared.entry.Entry.{Entry}
-use Rattle.table_state.proofs.Lists.{length-filter-le}
+use Rattle.pool_model.proofs.Lists.{length-filter-le}
 
 -- the entries at hand are those found that are counted
 module _ (found all homes listed : List Entry) (all_is : all ≡ found) (homes_are : homes ≡ filter (λ entry. nat_lt 0 entry.home.count) all) (listed_is : listed ≡ homes) where

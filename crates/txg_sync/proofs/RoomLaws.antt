@@ -21,10 +21,7 @@ use Rattle.table_state.specs.declared.slot_record.SlotRecord.{SlotRecord}
 use Rattle.table_state.proofs.PagesOf.{pages_within_named}
 use Rattle.table_state.proofs.SlotsAfter.{length_after}
 use Rattle.table_state.proofs.TableRoom.{pages_after_plain}
-use Rattle.txg_sync.specs.Placing.{pages_of}
-use Rattle.txg_sync.specs.Planning.{Group}
-use Rattle.txg_sync.specs.Syncing.{records_after, table_after}
-use Rattle.txg_sync.specs.Writing.{block_places}
+use Rattle.table_state.specs.Closing.{pages_of, PlainClosed, records_after, table_after, block_places}
 
 -- ---- The pages of the five chains
 
@@ -70,16 +67,19 @@ need_covers : (pages limit changes writes : ℕ) → writes + (pages + 6 * chang
 need_covers pages limit changes writes = grind (arith, nat_tests)
 
 -- the need of a group is enough
-pub need_enough : (image : Image) (held : Held) (pool : Pool) (table : TableState) (group : Group) (commands writes : ℕ) → IsHeld image held pool table → length group.slots ≤ commands → length group.log ≤ commands → length group.contents ≤ writes
-    → need (length held.pages) (flush_limit held.table) commands writes ≤ count_by not held.used → pages_of (records_after held group) ≤ count_by not (marked held.used (block_places group.contents))
-need_enough image held pool table group commands writes is slots log contents room =
-    in_all _ _ _ (length held.pages) (flush_limit held.table) commands writes (length group.contents) _ _ _
-    (pages_of_records (slots_after group.slots held.slots) (table_after held group))
-    (pages_after_plain (length held.slots) (length (slots_after group.slots held.slots)) commands group.log held.table (omega (arith, slots, length_after group.slots held.slots)) log)
+pub need_enough : (image : Image) (held : Held) (pool : Pool) (table : TableState) (closed : PlainClosed) (commands writes : ℕ)
+    → IsHeld image held pool table → length closed.slots ≤ commands → length closed.log ≤ commands → length closed.contents ≤ writes
+    → need (length held.pages) (flush_limit held.table) commands writes ≤ count_by not held.used → pages_of (records_after held closed) ≤
+    count_by not (marked held.used (block_places closed.contents))
+need_enough image held pool table closed commands writes is slots log contents room =
+    in_all _ _ _ (length held.pages) (flush_limit held.table) commands writes (length closed.contents) _ _ _
+    (pages_of_records (slots_after closed.slots held.slots) (table_after held closed))
+    (pages_after_plain (length held.slots) (length (slots_after closed.slots held.slots)) commands closed.log held.table
+    (omega (arith, slots, length_after closed.slots held.slots)) log)
     (held_pages image held pool table is)
     (need_covers (length held.pages) (flush_limit held.table) commands writes)
     room
-    (omega (arith, free_marked (block_places group.contents) held.used, length-map group.contents (λ (stored : Stored). stored.place)))
+    (omega (arith, free_marked (block_places closed.contents) held.used, length-map closed.contents (λ (stored : Stored). stored.place)))
     contents
   where
     in_all : (lists after before pages limit c w blocks needed free left : ℕ) → lists ≡ after → after ≤ before + (2 * c + 2 * limit + 1) → before ≤ pages → w + (pages + 6 * c + flush_room limit) ≤ needed → needed ≤ free → free ≤ left + blocks → blocks ≤ w → lists ≤ left

@@ -1,16 +1,17 @@
 -- What the stages of the first seal come to, one after another, where the disk tells its contents and where it doesn't.
-use Rattle.std.proofs.Common.{◌≡◌, ℕ, ◌≤◌, Option, Some, None, subst}
+use Rattle.std.proofs.Common.{◌≡◌, ℕ, ◌≤◌, Option, Some, None, subst, inl}
 use Rattle.std.specs.Prelude.{List, slice_set}
 use Rattle.disk_model.specs.Images.{Image, IsImage, TellsImage, Holds}
-use Rattle.disk_model.specs.Crashes.{LeavesOnly, NothingPending}
+use Rattle.disk_model.specs.Crashes.{DiskState, LeavesOnly, NothingPending}
 use Rattle.disk_model.proofs.Moments.{and_then, weakened}
 use Rattle.uber_ring.specs.Seals.{FitsSeal, body_bytes, open_gate}
 use Rattle.uber_ring.specs.Ring.{slot_of, gate_sector, body_sector, newest, WritingLeaves, OpeningLeaves, GateTorn, BodyTorn}
 use Rattle.uber_ring.specs.declared.seal.Seal.{Seal}
 use Rattle.table_state.specs.SealForms.{new_seal, fewest_sectors, most_sectors}
 use Rattle.table_state.specs.Flat.{flat_version}
-use Rattle.txg_sync.specs.Stages.{TakingLeaves, IsTaken, Takes, Beginning, Begins, HasNoSeal}
-use Rattle.txg_sync.proofs.Beginnings.{beginning_taking, beginning_body, beginning_gate, begun_opened}
+use Rattle.txg_sync.specs.Creating.{HasNoSeal}
+use Rattle.txg_sync.specs.Stages.{TakingLeaves, IsTaken, Takes, Unbegun, Beginning, Begins}
+use Rattle.txg_sync.proofs.Beginnings.{unbegun_taking, unbegun_body, beginning_gate, begun_opened}
 
 -- told contents after a write
 pub holds_some : (image : Image) (old new : Option Image) (at : ℕ) (bytes : List ℕ) → old ≡ Some image → Holds old new at bytes → new ≡ Some (slice_set image at bytes)
@@ -36,45 +37,54 @@ begins_of tag sectors seal (Some image) mid later new enough few is none fits sa
       begun_opened tag sectors image is none taken takes.2 enough few (subst FitsSeal same fits),
     )
 
-module _ {D : Type 0} (clock : D → ℕ) (left_since : D → ℕ → Image → Type 0) (may_leave : D → Image → Type 0) (seen : D → Option Image) (tag sectors : ℕ) (image : Image) (old : D) (told : seen old ≡ Some image) (tells : TellsImage sectors (seen old))
-    (no_seal : HasNoSeal (seen old)) where
+module _ (tag sectors : ℕ) (image : Image) (old : DiskState) (told : old.seen ≡ Some image) (tells : TellsImage sectors old.seen)
+    (no_seal : HasNoSeal old.seen) where
   is : IsImage sectors image
   is = subst (λ (o : Option Image). TellsImage sectors o) told tells
 
   none : newest flat_version image ≡ None
   none = subst HasNoSeal told no_seal
 
-  -- while the slot is taken
-  pub while_taking : (mid : D) → LeavesOnly clock left_since old mid (TakingLeaves 1 image) → LeavesOnly clock left_since old mid (Beginning tag image)
-  while_taking mid run = weakened clock left_since old mid (TakingLeaves 1 image) (Beginning tag image) run (beginning_taking tag sectors image is none)
+  -- where the gate wasn't reached
+  pub unbegun_at_each : {mid : DiskState} → LeavesOnly old mid (Unbegun image) → LeavesOnly old mid (Beginning tag image)
+  unbegun_at_each run = weakened (Beginning tag image) run (λ c before. record { shows = inl before.none; outside = before.outside })
 
-  module _ (enough : fewest_sectors ≤ sectors) (few : sectors ≤ most_sectors) (seal : Seal) (fits : FitsSeal seal) (same : seal ≡ new_seal tag sectors) (mid : D) (taking : LeavesOnly clock left_since old mid (TakingLeaves 1 image)) (takes : Takes 1 (seen old) (seen mid))
-      (still : NothingPending (seen mid) (may_leave mid)) where
-    taken : (taken : Image) × (seen mid ≡ Some taken) × IsTaken 1 image taken
-    taken = subst (λ (o : Option Image). Takes 1 o (seen mid)) told takes
+  -- while the slot is taken
+  pub while_taking : {mid : DiskState} → LeavesOnly old mid (TakingLeaves 1 image) → LeavesOnly old mid (Unbegun image)
+  while_taking run = weakened (Unbegun image) run (unbegun_taking tag sectors image is none)
+
+  module _ (enough : fewest_sectors ≤ sectors) (few : sectors ≤ most_sectors) (seal : Seal) (fits : FitsSeal seal)
+      (same : seal ≡ new_seal tag sectors)
+      {mid : DiskState} (taking : LeavesOnly old mid (TakingLeaves 1 image)) (takes : Takes 1 old.seen mid.seen)
+      (still : NothingPending mid.seen mid.may_leave) where
+    taken : (taken : Image) × (mid.seen ≡ Some taken) × IsTaken 1 image taken
+    taken = subst (λ (o : Option Image). Takes 1 o mid.seen) told takes
 
     -- while the body is written
-    pub while_filling : (later : D) → LeavesOnly clock left_since mid later (WritingLeaves (slot_of seal.group) (may_leave mid)) → LeavesOnly clock left_since old later (Beginning tag image)
-    while_filling later filling =
-        and_then clock left_since old mid later (Beginning tag image) (while_taking mid taking)
-        (weakened clock left_since mid later (WritingLeaves (slot_of seal.group) (may_leave mid)) (Beginning tag image) filling each)
+    pub while_filling : {later : DiskState} → LeavesOnly mid later (WritingLeaves (slot_of seal.group) mid.may_leave)
+        → LeavesOnly old later (Unbegun image)
+    while_filling filling =
+        and_then (while_taking taking)
+        (weakened (Unbegun image) filling each)
       where
-        each : (c : Image) → WritingLeaves (slot_of seal.group) (may_leave mid) c → Beginning tag image c
+        each : (c : Image) → WritingLeaves (slot_of seal.group) mid.may_leave c → Unbegun image c
         each c from =
-            beginning_body tag sectors image is none taken.0 taken.2 c
-            (subst (λ (d : Image). BodyTorn 1 d c) (only_told taken.0 (seen mid) (may_leave mid) taken.1 still from.0 from.1) (subst (λ (s : Seal). BodyTorn (slot_of s.group) from.0 c) same from.2))
+            unbegun_body tag sectors image is none taken.0 taken.2 c
+            (subst (λ (d : Image). BodyTorn 1 d c) (only_told taken.0 mid.seen mid.may_leave taken.1 still from.0 from.1)
+            (subst (λ (s : Seal). BodyTorn (slot_of s.group) from.0 c) same from.2))
 
     -- while the gate is opened
-    pub while_opening : (later new : D) → LeavesOnly clock left_since mid later (WritingLeaves (slot_of seal.group) (may_leave mid)) → Holds (seen mid) (seen later) (body_sector (slot_of seal.group)) (body_bytes seal) → NothingPending (seen later) (may_leave later)
-        → LeavesOnly clock left_since later new (OpeningLeaves 1 (may_leave later)) → LeavesOnly clock left_since old new (Beginning tag image)
-    while_opening later new filling filled still_later opening =
-        and_then clock left_since old later new (Beginning tag image) (while_filling later filling)
-        (weakened clock left_since later new (OpeningLeaves 1 (may_leave later)) (Beginning tag image) opening each)
+    pub while_opening : {later new : DiskState} → LeavesOnly mid later (WritingLeaves (slot_of seal.group) mid.may_leave)
+        → Holds mid.seen later.seen (body_sector (slot_of seal.group)) (body_bytes seal) → NothingPending later.seen later.may_leave
+        → LeavesOnly later new (OpeningLeaves 1 later.may_leave) → LeavesOnly old new (Beginning tag image)
+    while_opening {later} filling filled still_later opening =
+        and_then (unbegun_at_each (while_filling filling))
+        (weakened (Beginning tag image) opening each)
       where
-        seen_later : seen later ≡ Some (slice_set taken.0 (body_sector 1) (body_bytes (new_seal tag sectors)))
-        seen_later = holds_some taken.0 (seen mid) (seen later) _ _ taken.1 (as_new tag sectors seal (seen mid) (seen later) same filled)
+        seen_later : later.seen ≡ Some (slice_set taken.0 (body_sector 1) (body_bytes (new_seal tag sectors)))
+        seen_later = holds_some taken.0 mid.seen later.seen _ _ taken.1 (as_new tag sectors seal mid.seen later.seen same filled)
 
-        each : (c : Image) → OpeningLeaves 1 (may_leave later) c → Beginning tag image c
+        each : (c : Image) → OpeningLeaves 1 later.may_leave c → Beginning tag image c
         each c from =
             beginning_gate tag sectors image is none taken.0 taken.2 enough few (subst FitsSeal same fits) c
-            (subst (λ (d : Image). GateTorn 1 d c) (only_told _ (seen later) (may_leave later) seen_later still_later from.0 from.1) from.2)
+            (subst (λ (d : Image). GateTorn 1 d c) (only_told _ later.seen later.may_leave seen_later still_later from.0 from.1) from.2)

@@ -1,16 +1,17 @@
 -- What the blocks and the chains of a group come to, one after the other.
-use Rattle.std.proofs.Common.{◌≡◌, ℕ, ◌≤◌, Bool, true, false, ◌||◌, ◌==◌, List, Option, Some, None, Result, Ok, Err, refl, sym, ap, subst, ◌∙◌}
+use Rattle.std.proofs.Common.{◌≡◌, ℕ, Bool, true, false, ◌||◌, ◌==◌, List, Option, Some, None, Result, Ok, Err, refl, sym, ap, subst, ◌∙◌}
 use Rattle.std.specs.Prelude.{unwrap_or, OnOk}
 use Rattle.std.specs.List.{list_any}
 use Rattle.std.proofs.lemmas.List.Folds.{list_any-append}
 use Rattle.disk_model.specs.Images.{Image}
-use Rattle.disk_model.specs.Crashes.{LeavesOnly}
-use Rattle.disk_model.proofs.Moments.{and_then, weakened}
+use Rattle.disk_model.specs.Crashes.{DiskState, IsDisk, LeavesOnly}
+use Rattle.disk_model.proofs.Moments.{and_then, weakened, at_end}
 use Rattle.page_tree.specs.Chains.{SameBut, MayTouchAll, ChainLeaves}
 use Rattle.pool_model.specs.Plain.{Stored}
 use Rattle.table_state.specs.Pools.{with_blocks}
 use Rattle.table_state.specs.Sealed.{ChainPart, places_in}
-use Rattle.txg_sync.specs.Writing.{block_places, group_places, Stores, HoldsSince, StoresParts}
+use Rattle.table_state.specs.Closing.{block_places}
+use Rattle.txg_sync.specs.Writing.{group_places, Stores, HoldsSince, StoresParts}
 
 -- what follows from what holds at Ok
 pub on_ok : {T E : Type 0} (result : Result T E) (P Q : Type 0) → (P → Q) → OnOk result P → OnOk result Q
@@ -67,16 +68,18 @@ module _ (contents : List Stored) (parts : List ChainPart) where
       (holds.0, holds.1, record { only = same_both image d holds.0 front beside; held = holds.2; beside = beside.others })
 
   -- at each moment
-  module _ {D : Type 0} (clock : D → ℕ) (left_since : D → ℕ → Image → Type 0) (may_leave : D → Image → Type 0) (old mid : D) (run : LeavesOnly clock left_since old mid (ChainLeaves blocks (may_leave old))) where
-    pub while_blocks : LeavesOnly clock left_since old mid (ChainLeaves (group_places contents parts) (may_leave old))
-    while_blocks = weakened clock left_since old mid (ChainLeaves blocks (may_leave old)) (ChainLeaves (group_places contents parts) (may_leave old)) run (λ c from. (from.0, from.1, same_blocks from.0 c from.2))
+  module _ {old mid : DiskState} (run : LeavesOnly old mid (ChainLeaves blocks old.may_leave)) where
+    pub while_blocks : LeavesOnly old mid (ChainLeaves (group_places contents parts) old.may_leave)
+    while_blocks =
+        weakened (ChainLeaves (group_places contents parts) old.may_leave) run (λ c from. (from.0, from.1, same_blocks from.0 c from.2))
 
-    pub while_chains : (new : D) → ((since : ℕ) (c : Image) → since ≤ clock mid → may_leave mid c → left_since mid since c) → LeavesOnly clock left_since mid new (ChainLeaves pages (may_leave mid)) → LeavesOnly clock left_since old new (ChainLeaves (group_places contents parts) (may_leave old))
-    while_chains new counted later =
-        and_then clock left_since old mid new (ChainLeaves (group_places contents parts) (may_leave old)) while_blocks
-        (weakened clock left_since mid new (ChainLeaves pages (may_leave mid)) (ChainLeaves (group_places contents parts) (may_leave old)) later each)
+    pub while_chains : {new : DiskState} → IsDisk mid → LeavesOnly mid new (ChainLeaves pages mid.may_leave)
+        → LeavesOnly old new (ChainLeaves (group_places contents parts) old.may_leave)
+    while_chains is later =
+        and_then while_blocks
+        (weakened (ChainLeaves (group_places contents parts) old.may_leave) later each)
       where
-        each : (c : Image) → ChainLeaves pages (may_leave mid) c → ChainLeaves (group_places contents parts) (may_leave old) c
+        each : (c : Image) → ChainLeaves pages mid.may_leave c → ChainLeaves (group_places contents parts) old.may_leave c
         each c from =
-            let first = run.each from.0 (counted (clock old) from.0 run.later from.1) in
+            let first = at_end run is from.0 from.1 in
             (first.0, first.1, same_both first.0 from.0 c first.2 from.2)

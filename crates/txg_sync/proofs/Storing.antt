@@ -8,7 +8,8 @@ use Rattle.page_tree.proofs.Chaining.{touched_more, touched_last, leaves_more}
 use Rattle.pool_model.specs.declared.closed.StoredBlock.{StoredBlock}
 use Rattle.pool_model.specs.Plain.{Stored, stored_of}
 use Rattle.table_state.specs.Pools.{block_sector, put_block, with_blocks}
-use Rattle.txg_sync.specs.Writing.{block_places, Stores}
+use Rattle.table_state.specs.Closing.{block_places}
+use Rattle.txg_sync.specs.Writing.{Stores}
 
 module _ (contents : List StoredBlock) (i : ℕ) (item : StoredBlock) (inside : i < length contents) (here : item ≡ get_or contents i item) where
   stored_here : get_or (map stored_of contents) i (stored_of item) ≡ stored_of item

@@ -1,38 +1,43 @@
 -- What the plan of a group and its sealing come to, where the disk tells its contents and where it doesn't.
-use Rattle.std.proofs.Common.{◌≡◌, ◌≢◌, ℕ, zero, suc, get_or, ◌+◌, ◌^◌, ◌<◌, ◌≤◌, true, false, ◌==◌, List, [], ◌∷◌, Option, Some, None, length, map, sym, ap, subst, ◌∙◌, inl, inr, ⊎_elim, arith}
-use Rattle.std.specs.Prelude.{slice_index_or}
-use Rattle.std.specs.List.{AllByRecursion, list_any}
-use Rattle.std.proofs.lemmas.List.{length-map}
-use Rattle.disk_model.specs.Images.{Image, TellsImage, sector_at}
-use Rattle.disk_model.specs.Crashes.{LeavesOnly}
-use Rattle.disk_model.proofs.Moments.{weakened}
+use Rattle.std.proofs.Common.{◌≡◌, ℕ, zero, suc, get_or, ◌+◌, ◌^◌, ◌<◌, ◌≤◌, List, [], ◌∷◌, Option, Some, None, length, map, refl, sym, ap, subst, ◌∙◌, inl, inr, ⊎_elim, arith}
+use Rattle.std.specs.Prelude.{replicate}
+use Rattle.std.specs.List.{AllByRecursion}
+use Rattle.std.proofs.lemmas.List.{length-map, length-replicate}
+use Rattle.disk_model.specs.Images.{Image, TellsImage}
+use Rattle.disk_model.specs.Crashes.{DiskState, IsDisk, LeavesOnly, NothingPending}
+use Rattle.disk_model.proofs.Moments.{started, weakened}
 use Rattle.page_tree.specs.Chains.{AreOpen}
 use Rattle.uber_ring.specs.Ring.{slot_of, gate_sector, body_sector}
 use Rattle.uber_ring.specs.declared.seal.Seal.{Seal}
 use Rattle.pool_model.specs.declared.closed.StoredBlock.{StoredBlock}
 use Rattle.pool_model.specs.Plain.{Stored, stored_of}
 use Rattle.pool_model.specs.Pool.{Pool}
+use Rattle.pool_model.specs.Group.{Standing}
 use Rattle.pool_model.specs.Table.{TableState}
-use Rattle.table_state.specs.Flat.{StandsFor}
-use Rattle.table_state.specs.Pools.{Held, IsHeld, slots_after}
+use Rattle.ddt_entry.specs.Records.{Fits as ChangeFits}
+use Rattle.ddt_entry.specs.declared.entry.Change.TheVariants as changes
+use Rattle.table_state.specs.SlotRecords.{FitsSlot}
+use Rattle.table_state.specs.Holding.{StandsOver}
+use Rattle.table_state.specs.Pools.{Held, slots_after}
 use Rattle.table_state.specs.SealForms.{last_group}
 use Rattle.table_state.specs.Sound.{IsSound}
 use Rattle.table_state.specs.Sealed.{ChainPart, places_in, records_in}
 use Rattle.table_state.specs.declared.slot_record.SlotRecord.{SlotRecord}
-use Rattle.table_state.proofs.FlatLaws.{one_state}
+use Rattle.table_state.proofs.Held.{holds_over}
 use Rattle.table_state.proofs.Stands.{open_wider}
-use Rattle.txg_sync.specs.Placing.{pages_of}
-use Rattle.txg_sync.specs.Planning.{Group, IsPlan}
-use Rattle.txg_sync.specs.Syncing.{CanSync, CanSyncOver, IsInRange, SyncLeaves, Syncs, records_after}
+use Rattle.table_state.specs.Closing.{pages_of, PlainClosed, CanSync, CanSyncOver, IsInRange, records_after}
+use Rattle.txg_sync.specs.Planning.{IsPlan}
+use Rattle.txg_sync.specs.Syncing.{KeepsNamed, BeforeGate, SyncLeaves, Syncs}
 use Rattle.txg_sync.specs.Writing.{group_places, with_roots, FollowsSeal, IsUnsealed, MayBeSealed, Seals, TouchesOnly}
 use Rattle.txg_sync.proofs.PlacedParts.{places_as_pages}
-use Rattle.txg_sync.proofs.Outcomes.{stands_before_gate, not_written}
-use Rattle.txg_sync.proofs.Afterwards.{AreSpelt, held_after, stands_after}
+use Rattle.txg_sync.proofs.Outcomes.{holds_before_gate, not_written}
+use Rattle.txg_sync.proofs.Afterwards.{AreSpelt, holds_after, over_after}
 
 five_lists : (parts : List ChainPart) (a b c d e : List (List ℕ)) → map (λ part. part.records) parts ≡ a ∷ b ∷ c ∷ d ∷ e ∷ [] → length parts ≡ 5
 five_lists parts a b c d e are = sym (length-map parts (λ (part : ChainPart). part.records)) ∙ ap length are
 
-module _ (held : Held) (group : Group) (sound : IsSound held) (next : Held) (parts : List ChainPart) (seal : Seal) (plan : IsPlan held group next parts seal) where
+module _ (held : Held) (closed : PlainClosed) (sound : IsSound held) (next : Held) (parts : List ChainPart) (seal : Seal)
+    (plan : IsPlan held closed next parts seal) where
   -- five chains
   pub five_chains : length parts ≡ 5
   five_chains = five_lists parts _ _ _ _ _ plan.placed.spelled
@@ -48,7 +53,7 @@ module _ (held : Held) (group : Group) (sound : IsSound held) (next : Held) (par
   open_on_disk sectors there = open_wider (length held.used) sectors (omega (arith, there, sound.used_len)) [] (places_in parts) plan.placed.places_open
 
   -- the seal is the next one
-  pub follows_newest : (told : Option Image) → CanSyncOver told held group → FollowsSeal seal.group told
+  pub follows_newest : (told : Option Image) → CanSyncOver told held closed → FollowsSeal seal.group told
   follows_newest None can = tt
   follows_newest (Some image) can = (
     can.is_held.stands.seal,
@@ -56,55 +61,126 @@ module _ (held : Held) (group : Group) (sound : IsSound held) (next : Held) (par
     seal_group_is ∙ ap (λ n. n + 1) (can.is_held.group_is ∙ ap (λ (p : Pool). p.group) can.is_held.stands.pool_is),
   )
 
-  module _ (image : Image) (can : CanSync image held group) (pool : Pool) (table : TableState) (is : IsHeld image held pool table) where
-    same_pool : (can.pool ≡ pool) × (can.table ≡ table)
-    same_pool = one_state held.tag image can.pool pool can.table table can.is_held.stands is.stands
+  module _ (image : Image) (can : CanSync image held closed) where
+    -- only what nothing named may differ
+    keeps_named : (c : Image) → TouchesOnly (slot_of seal.group) (group_places closed.contents parts) image c → KeepsNamed held image c
+    keeps_named c only at gate body used =
+        only.others at (λ e. gate (e ∙ ap (λ n. gate_sector (slot_of n)) seal_group_is))
+        (λ e. body (e ∙ ap (λ n. body_sector (slot_of n)) seal_group_is))
+        (not_written image held closed can sound parts plan.placed.unused at used)
 
-    -- before the gate may be open the image stands for the pool before
-    pub before_gate : (c : Image) → IsUnsealed (slot_of seal.group) (group_places group.contents parts) image c → StandsFor held.tag c pool table
-    before_gate c unsealed =
-        subst (λ (t : TableState). StandsFor held.tag c pool t) same_pool.1 (subst (λ (p : Pool). StandsFor held.tag c p can.table) same_pool.0
-        (stands_before_gate image held group can sound parts plan.placed.unused (slot_of seal.group) c (omega arith) unsealed))
+    module _ (s : Standing) (over : StandsOver image held s) where
+      -- before the gate may be open the image holds what stood
+      pub before_gate : (c : Image) → IsUnsealed (slot_of seal.group) (group_places closed.contents parts) image c
+          → BeforeGate image held s c
+      before_gate c unsealed = record {
+        stands =
+            holds_before_gate image held closed can sound parts plan.placed.unused s over (slot_of seal.group) c (omega arith) unsealed;
+        only = keeps_named c unsealed.only;
+      }
 
-  module _ (range : IsInRange held group) (last : held.group + 1 ≤ last_group) (spelt : AreSpelt next.slots next.table) where
+      -- as it goes on until then
+      pub while_filling : {old new : DiskState}
+          → LeavesOnly old new (IsUnsealed (slot_of seal.group) (group_places closed.contents parts) image)
+          → LeavesOnly old new (BeforeGate image held s)
+      while_filling run = weakened (BeforeGate image held s) run before_gate
+
+  module _ (range : IsInRange held closed) (last : held.group + 1 ≤ last_group) (spelt : AreSpelt next.slots next.table) where
     -- the group was synced
-    pub syncs_of : (sectors : ℕ) (old new : Option Image) → TellsImage sectors old → held.sectors ≤ sectors → sectors ≤ 2 ^ 64 → CanSyncOver old held group → Seals (slot_of seal.group) group.contents parts (with_roots seal parts) old new → Syncs old held group next new
+    pub syncs_of : (sectors : ℕ) (old new : Option Image) → TellsImage sectors old → held.sectors ≤ sectors → sectors ≤ 2 ^ 64
+        → CanSyncOver old held closed → Seals (slot_of seal.group) closed.contents parts (with_roots seal parts) old new → Syncs old held
+        closed next new
     syncs_of sectors None new tells there small can seals = tt
     syncs_of sectors (Some image) new tells there small can seals = (
       seals.0,
       seals.1,
-      held_after held group sound range last next parts seal plan image (omega (arith, there, tells.count)) (omega (arith, small, tells.count)) can spelt (slot_of seal.group) seals.0 seals.2,
+      record {
+        stands =
+            over_after held closed sound range last next parts seal plan image (omega (arith, there, tells.count))
+            (omega (arith, small, tells.count)) can spelt (slot_of seal.group) seals.0 seals.2;
+        only = keeps_named image can seals.0 seals.2.only;
+      },
     )
 
-    module _ (image : Image) (there : held.sectors ≤ length image) (small : length image ≤ 2 ^ 64) (can : CanSync image held group) (pool : Pool) (table : TableState) (is : IsHeld image held pool table) where
-      untouched : (places : List ℕ) (c : Image) → TouchesOnly (slot_of seal.group) places image c → ((at : ℕ) → slice_index_or held.used at true ≡ true → list_any (λ place. place == at) places ≡ false)
-          → (at : ℕ) → at ≢ gate_sector (slot_of (held.group + 1)) → at ≢ body_sector (slot_of (held.group + 1)) → slice_index_or held.used at true ≡ true → sector_at c at ≡ sector_at image at
-      untouched places c only none at gate body used =
-          only.others at (λ e. gate (e ∙ ap (λ n. gate_sector (slot_of n)) seal_group_is)) (λ e. body (e ∙ ap (λ n. body_sector (slot_of n)) seal_group_is)) (none at used)
-
-      -- at each moment the pool before or the one after
-      pub leaves_of : (c : Image) → MayBeSealed (slot_of seal.group) group.contents parts (with_roots seal parts) image c → SyncLeaves image held group pool table c
+    module _ (image : Image) (there : held.sectors ≤ length image) (small : length image ≤ 2 ^ 64) (can : CanSync image held closed)
+        (s : Standing) (over : StandsOver image held s) where
+      -- at each moment what stood or what stands after the group
+      pub leaves_of : (c : Image) → MayBeSealed (slot_of seal.group) closed.contents parts (with_roots seal parts) image c
+          → SyncLeaves image held closed s (places_in parts) c
       leaves_of c may =
           ⊎_elim
-          (λ unsealed. record {
-            stands = inl (before_gate image can pool table is c unsealed);
-            only = untouched (group_places group.contents parts) c unsealed.only (not_written image held group can sound parts plan.placed.unused);
-          })
+          (λ unsealed. let before = before_gate image can s over c unsealed in record { stands = inl before.stands; only = before.only })
           (λ sealed. record {
-            stands = inr (stands_after held group sound range last next parts seal plan image there small can spelt (slot_of seal.group) c sealed);
-            only = untouched (group_places group.contents parts) c sealed.only (not_written image held group can sound parts plan.placed.unused);
+            stands =
+                inr (holds_after held closed sound range last next parts seal plan image there small can spelt (slot_of seal.group) c
+                sealed);
+            only = keeps_named image can c sealed.only;
           })
           may
 
       -- as it goes on
-      pub while_syncing : {D : Type 0} (clock : D → ℕ) (left_since : D → ℕ → Image → Type 0) (old new : D) → LeavesOnly clock left_since old new (MayBeSealed (slot_of seal.group) group.contents parts (with_roots seal parts) image) → LeavesOnly clock left_since old new (SyncLeaves image held group pool table)
-      while_syncing clock left_since old new run =
-          weakened clock left_since old new (MayBeSealed (slot_of seal.group) group.contents parts (with_roots seal parts) image) (SyncLeaves image held group pool table) run leaves_of
+      pub while_syncing : {old new : DiskState}
+          → LeavesOnly old new (MayBeSealed (slot_of seal.group) closed.contents parts (with_roots seal parts) image)
+          → LeavesOnly old new (SyncLeaves image held closed s next.pages)
+      while_syncing {old} {new} run =
+          subst (λ (pages : List ℕ). LeavesOnly old new (SyncLeaves image held closed s pages)) (sym plan.is_next.pages_are)
+          (weakened (SyncLeaves image held closed s (places_in parts)) run leaves_of)
 
 -- the pool after a plan has the pages that its chains take
-pub pages_after : (held : Held) (group : Group) (next : Held) (parts : List ChainPart) (seal : Seal) → IsPlan held group next parts seal → length next.pages ≡ pages_of (records_after held group)
-pages_after held group next parts seal plan =
-    ap (λ (pages : List ℕ). length pages) plan.is_next.pages_are ∙ places_as_pages parts plan.placed.pages ∙ ap pages_of (plan.placed.spelled ∙ ap (λ (slots : List SlotRecord). records_in slots next.table) plan.is_next.slots_are ∙ ap (records_in (slots_after group.slots held.slots)) plan.is_next.table_is)
+pub pages_after : (held : Held) (closed : PlainClosed) (next : Held) (parts : List ChainPart) (seal : Seal)
+    → IsPlan held closed next parts seal → length next.pages ≡ pages_of (records_after held closed)
+pages_after held closed next parts seal plan =
+    ap (λ (pages : List ℕ). length pages) plan.is_next.pages_are ∙ places_as_pages parts plan.placed.pages
+    ∙ ap pages_of (plan.placed.spelled ∙ ap (λ (slots : List SlotRecord). records_in slots next.table) plan.is_next.slots_are
+    ∙ ap (records_in (slots_after closed.slots held.slots)) plan.is_next.table_is)
+
+-- lists at hand are those of the plan
+module _ (seal : Seal) (blocks listed : List StoredBlock) (parts given : List ChainPart) (same_blocks : listed ≡ blocks)
+    (same_parts : given ≡ parts) where
+  pub as_planned : (P : List Stored → List ChainPart → Type 0) → P (map stored_of listed) given → P (map stored_of blocks) parts
+  as_planned P here =
+      subst (P (map stored_of blocks)) same_parts (subst (λ (cs : List StoredBlock). P (map stored_of cs) given) same_blocks here)
+
+  pub unsealed_as_planned : (image : Image) {old new : DiskState}
+      → LeavesOnly old new (IsUnsealed (slot_of seal.group) (group_places (map stored_of listed) given) image)
+      → LeavesOnly old new (IsUnsealed (slot_of seal.group) (group_places (map stored_of blocks) parts) image)
+  unsealed_as_planned image {old} {new} run =
+      as_planned (λ contents ps. LeavesOnly old new (IsUnsealed (slot_of seal.group) (group_places contents ps) image)) run
+
+  pub may_be_as_planned : (image : Image) {old new : DiskState}
+      → LeavesOnly old new (MayBeSealed (slot_of seal.group) (map stored_of listed) given (with_roots seal given) image)
+      → LeavesOnly old new (MayBeSealed (slot_of seal.group) (map stored_of blocks) parts (with_roots seal parts) image)
+  may_be_as_planned image {old} {new} run =
+      as_planned (λ contents ps. LeavesOnly old new (MayBeSealed (slot_of seal.group) contents ps (with_roots seal ps) image)) run
+
+  pub sealed_as_planned : (old new : Option Image) → Seals (slot_of seal.group) (map stored_of listed) given (with_roots seal given) old new
+      → Seals (slot_of seal.group) (map stored_of blocks) parts (with_roots seal parts) old new
+  sealed_as_planned old new seals = as_planned (λ contents ps. Seals (slot_of seal.group) contents ps (with_roots seal ps) old new) seals
+
+-- slots and a table at hand that have a spelling
+pub spelt_by : (next : Held) (slots : List SlotRecord) (table : TableState) → slots ≡ next.slots → table ≡ next.table
+    → AllByRecursion FitsSlot slots → AllByRecursion (λ entry. ChangeFits (changes.Entry entry)) table.zap
+    → AllByRecursion ChangeFits table.flush → AllByRecursion ChangeFits table.active → AreSpelt next.slots next.table
+spelt_by next slots table same_slots same_table fit zap flush active =
+    subst (λ (s : List SlotRecord). AreSpelt s next.table) same_slots
+    (subst (AreSpelt slots) same_table (record { slots_fit = fit; zap = zap; flush = flush; active = active }))
+
+-- where nothing was begun what stood stands, and some pages would have been as many
+pub nothing_begun : {D : DiskState} (image : Image) (held : Held) (closed : PlainClosed) (s : Standing) → IsDisk D
+    → NothingPending (Some image) D.may_leave
+    → StandsOver image held s → (pages : List ℕ) × (length pages ≡ pages_of (records_after held closed)) × LeavesOnly D D
+    (SyncLeaves image held closed s pages)
+nothing_begun image held closed s here still over = (
+  replicate (pages_of (records_after held closed)) 0,
+  length-replicate {A = ℕ} (pages_of (records_after held closed)) 0,
+  started (SyncLeaves image held closed s (replicate (pages_of (records_after held closed)) 0))
+      (λ c left. as_before c (still.1 c (here.only_now c left))),
+)
+  where
+    as_before : (c : Image) → c ≡ image → SyncLeaves image held closed s (replicate (pages_of (records_after held closed)) 0) c
+    as_before c same =
+        subst (SyncLeaves image held closed s (replicate (pages_of (records_after held closed)) 0)) (sym same)
+        (record { stands = inl (holds_over image held s over); only = λ at gate body used. refl })
 
 -- what holds of each stored block holds at each index of the blocks
 pub stored_at : (Q : Stored → Type 0) (contents : List StoredBlock) → AllByRecursion Q (map stored_of contents) → (k : ℕ) (d : StoredBlock) → k < length contents → Q (stored_of (get_or contents k d))

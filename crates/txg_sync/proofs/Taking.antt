@@ -2,7 +2,7 @@
 use Rattle.std.proofs.Common.{◌≡◌, ℕ, ◌<◌, ◌≤◌, Bool, true, false, Option, Some, None, refl, sym, subst, ◌∙◌, inl, inr, ⊎_elim}
 use Rattle.std.specs.Prelude.{IfSome, MatchBool, slice_set}
 use Rattle.disk_model.specs.Images.{Image, IsImage, TellsImage, Stays}
-use Rattle.disk_model.specs.Crashes.{Elapses, LeavesOnly, NothingPending, SameOutcomes}
+use Rattle.disk_model.specs.Crashes.{DiskState, Elapses, IsDisk, LeavesOnly, NothingPending, SameOutcomes}
 use Rattle.disk_model.proofs.Moments.{started, goes_on, and_then, weakened}
 use Rattle.disk_model.proofs.Sectors.{Torn-same, Torn-set}
 use Rattle.uber_ring.specs.Seals.{closed_gate}
@@ -55,28 +55,31 @@ takes_of slot sectors was_open (Some image) mid later new is in_ring enough firs
     taken_of slot sectors image is was_open new in_ring enough (subst (λ (o : Option Image). IfSome o (λ i. was_open ≡ gate_is_open i slot)) first gate) (subst (λ (o : Option Image). Closes slot was_open o new) there closes)
 
 -- a crash at each moment of it: the meter changes nothing that a crash may leave, and the closing what the ring says
-pub while_taken : {D : Type 0} (clock : D → ℕ) (left_since : D → ℕ → Image → Type 0) (may_leave : D → Image → Type 0) (seen : D → Option Image) (slot sectors : ℕ) (image : Image) (is : IsImage sectors image) (old metered retired new : D) (was_open : Bool)
-    → seen old ≡ Some image → NothingPending (Some image) (may_leave old) → ((c : Image) → left_since old (clock old) c → may_leave old c)
-    → Stays (seen old) (seen metered) → SameOutcomes (may_leave old) (may_leave metered) → Elapses (clock old) (clock metered) (left_since old) (left_since metered) (may_leave metered)
-    → IfSome (seen metered) (λ i. was_open ≡ gate_is_open i slot)
-    → SameOutcomes (may_leave metered) (may_leave retired) → Elapses (clock metered) (clock retired) (left_since metered) (left_since retired) (may_leave retired)
-    → LeavesOnly clock left_since retired new (ClosingLeaves slot was_open (may_leave retired)) → LeavesOnly clock left_since old new (TakingLeaves slot image)
-while_taken clock left_since may_leave seen slot sectors image is old metered retired new was_open told pending now stays same_metered time_metered gate same_retired time_retired closing =
-    and_then clock left_since old retired new P
-    (goes_on clock left_since old metered retired P (may_leave retired)
-    (goes_on clock left_since old old metered P (may_leave metered) (started clock left_since old P (λ c left. still c (now c left))) time_metered (λ c left. still c (same_metered.no_more c left)))
+pub while_taken : (slot sectors : ℕ) (image : Image) (is : IsImage sectors image) {old metered retired new : DiskState} (was_open : Bool)
+    → old.seen ≡ Some image → NothingPending (Some image) old.may_leave → IsDisk old
+    → Stays old.seen metered.seen → SameOutcomes old.may_leave metered.may_leave → Elapses old metered
+    → IfSome metered.seen (λ i. was_open ≡ gate_is_open i slot)
+    → SameOutcomes metered.may_leave retired.may_leave → Elapses metered retired
+    → LeavesOnly retired new (ClosingLeaves slot was_open retired.may_leave) → LeavesOnly old new (TakingLeaves slot image)
+while_taken slot sectors image is {old} {metered} {retired} was_open told pending here stays same_metered time_metered gate
+    same_retired time_retired closing =
+    and_then
+    (goes_on
+    (goes_on (started P (λ c left. still c (here.only_now c left))) time_metered (λ c left. still c (same_metered.no_more c left)))
     time_retired (λ c left. still c (earlier c left)))
-    (weakened clock left_since retired new (ClosingLeaves slot was_open (may_leave retired)) P closing
+    (weakened P closing
     (λ c step. taking_of slot sectors image is was_open step.0 c gate_now (pending.1 step.0 (earlier step.0 step.1)) step.2))
   where
     P : Image → Type 0
     P = TakingLeaves slot image
 
-    still : (c : Image) → may_leave old c → P c
+    still : (c : Image) → old.may_leave c → P c
     still c left = subst P (sym (pending.1 c left)) (still_taking slot sectors image is)
 
-    earlier : (c : Image) → may_leave retired c → may_leave old c
+    earlier : (c : Image) → retired.may_leave c → old.may_leave c
     earlier c left = same_metered.no_more c (same_retired.no_more c left)
 
     gate_now : was_open ≡ gate_is_open image slot
-    gate_now = subst (λ (o : Option Image). IfSome o (λ i. was_open ≡ gate_is_open i slot)) (stays_some image (seen old) (seen metered) told stays) gate
+    gate_now =
+        subst (λ (o : Option Image). IfSome o (λ i. was_open ≡ gate_is_open i slot)) (stays_some image old.seen metered.seen told stays)
+        gate

@@ -1,5 +1,5 @@
 -- Which sectors a pool uses after a group, and where the group's chains may go: to sectors that nothing uses, not even a block of the group.
-use Rattle.std.specs.Prelude.{◌≡◌, ℕ, ◌<◌, Bool, not, true, false, ◌==◌, List, [], ◌∷◌, length, map, take, drop, slice_index_or, sum_by, count_by, Option}
+use Rattle.std.specs.Prelude.{◌≡◌, ℕ, ◌<◌, Bool, not, true, false, ◌==◌, List, [], ◌∷◌, length, map, take, drop, slice_index_or, count_by, Option}
 use Rattle.std.specs.List.{AllByRecursion, list_any}
 use Rattle.grant_book.specs.Sectors.{marked}
 use Rattle.page_tree.specs.Chains.{pages_for, AreOpen}
@@ -10,7 +10,7 @@ use Rattle.pool_model.specs.Table.{TableState}
 use Rattle.table_state.specs.Pools.{pool_after}
 use Rattle.table_state.specs.Sealed.{ChainPart, places_in}
 use Rattle.table_state.specs.declared.slot_record.SlotRecord.{SlotRecord}
-use Rattle.txg_sync.specs.Writing.{block_places}
+use Rattle.table_state.specs.Closing.{block_places, pages_of}
 
 -- these are the sectors that a pool with these pages, slots and table uses, whatever its settings
 abbrev pub AreUsed : (sectors : ℕ) → (pages : List ℕ) → List SlotRecord → TableState → List Bool → Type 0
@@ -24,10 +24,6 @@ pub record ArePlaced (used : List Bool) (contents : List Stored) (lists : List (
   pub places_open : AreOpen (length used) [] (places_in parts)
   pub unused : AllByRecursion (λ place. slice_index_or used place true ≡ false) (places_in parts)
   pub no_block : AllByRecursion (λ place. list_any (λ stored. stored.place == place) contents ≡ false) (places_in parts)
-
--- how many pages the chains of these records take
-abbrev pub pages_of : List (List (List ℕ)) → ℕ
-pages_of lists = sum_by (λ records. pages_for (length records)) lists
 
 -- fewer sectors are free beside these blocks than these chains take
 abbrev pub LacksRoom : List Bool → (contents : List Stored) → (lists : List (List (List ℕ))) → Type 0

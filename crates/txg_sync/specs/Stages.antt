@@ -5,12 +5,12 @@ use Rattle.uber_ring.specs.Ring.{slot_of, gate_sector, body_sector, gate_is_open
 use Rattle.uber_ring.specs.Seals.{FitsSeal, body_bytes}
 use Rattle.uber_ring.specs.declared.seal.Seal.{Seal}
 use Rattle.pool_model.specs.Plain.{Stored}
-use Rattle.pool_model.specs.Pool.{empty_pool}
-use Rattle.pool_model.specs.Table.{empty_table}
-use Rattle.table_state.specs.Pools.{Held, IsHeld}
+use Rattle.pool_model.specs.Run.{first_standing}
+use Rattle.table_state.specs.Holding.{Holds}
 use Rattle.table_state.specs.SealForms.{new_seal}
-use Rattle.table_state.specs.Flat.{StandsFor, flat_version}
+use Rattle.table_state.specs.Flat.{HasNoPool, flat_version}
 use Rattle.table_state.specs.Sealed.{ChainPart}
+use Rattle.txg_sync.specs.Creating.{NoneOrNew}
 use Rattle.txg_sync.specs.Writing.{IsStored}
 
 -- while a slot is taken nothing but its gate may change, and it shows the seal that it showed before, or none
@@ -28,39 +28,30 @@ abbrev pub Takes : (slot : ℕ) → (old new : Option Image) → Type 0
 Takes slot None new = ⊤
 Takes slot (Some image) new = (taken : Image) × (new ≡ Some taken) × IsTaken slot image taken
 
--- no seal counts yet, or the image stands for the empty pool
-abbrev pub NoneOrEmpty : (tag : ℕ) → Image → Type 0
-NoneOrEmpty tag c = (newest flat_version c ≡ None) ⊎ StandsFor tag c empty_pool empty_table
-
 -- every sector but the two of a slot is as before
 pub record SameOutside (slot : ℕ) (image c : Image) : Type 0 where
   pub count : length c ≡ length image
   pub others : (at : ℕ) → at ≢ gate_sector slot → at ≢ body_sector slot → sector_at c at ≡ sector_at image at
 
--- while the first seal is written no seal counts yet, or the image stands for the empty pool, and only its slot changes
+-- until the gate of the first seal is written no seal counts, and only its slot changes
+pub record Unbegun (image c : Image) : Type 0 where
+  pub none : HasNoPool c
+  pub outside : SameOutside 1 image c
+
+-- while the first seal is written no seal counts yet, or the image holds the new pool, and only its slot changes
 pub record Beginning (tag : ℕ) (image c : Image) : Type 0 where
-  pub shows : NoneOrEmpty tag c
+  pub shows : NoneOrNew tag (length image) c
   pub outside : SameOutside 1 image c
 
 -- the first seal counts
 pub record Begun (tag : ℕ) (image c : Image) : Type 0 where
   pub counts : newest flat_version c ≡ Some (new_seal tag (length image))
-  pub empty : StandsFor tag c empty_pool empty_table
+  pub new : Holds tag c (first_standing (length image))
   pub outside : SameOutside 1 image c
 
 abbrev pub Begins : (tag : ℕ) → (old new : Option Image) → Type 0
 Begins tag None new = ⊤
 Begins tag (Some image) new = (c : Image) × (new ≡ Some c) × Begun tag image c
-
--- no seal counts in told contents
-abbrev pub HasNoSeal : Option Image → Type 0
-HasNoSeal None = ⊤
-HasNoSeal (Some image) = newest flat_version image ≡ None
-
--- a pool was created: the pool in memory stands for the empty pool, and only the first slot of the ring has changed
-abbrev pub Creates : (old new : Option Image) → Held → Type 0
-Creates None new held = ⊤
-Creates (Some image) new held = (c : Image) × (new ≡ Some c) × IsHeld c held empty_pool empty_table × SameOutside 1 image c
 
 -- all of a group but its gate is written: its slot is taken, its blocks and pages stand at their places, and the body holds its seal
 pub record IsFilled (contents : List Stored) (parts : List ChainPart) (seal : Seal) (image c : Image) : Type 0 where

@@ -1,4 +1,8 @@
--- How the faults of a sealing are told of a sync.
+-- How the faults of a sealing are told of a sync, and what both leave of a disk's size and counts of faults.
+use Rattle.std.specs.Prelude.{Result, IsErrOf}
+use Rattle.disk_model.specs.Crashes.{DiskState}
+use Rattle.disk_model.specs.Accounts.{Keeps}
+use Rattle.disk_model.specs.Faults.{Rose}
 use Rattle.txg_sync.specs.declared.fault.SealFault.{SealFault}
 use Rattle.txg_sync.specs.declared.fault.SealFault.TheVariants as seals
 use Rattle.pool_model.specs.declared.faults.SyncFault.{SyncFault}
@@ -8,3 +12,18 @@ use Rattle.pool_model.specs.declared.faults.SyncFault.TheVariants as syncs
 abbrev pub sync_fault_of : SealFault → SyncFault
 sync_fault_of seals.ReadFault = syncs.ReadFault
 sync_fault_of seals.WriteFault = syncs.WriteFault
+sync_fault_of seals.GateFault = syncs.GateFault
+
+-- a sealing keeps the size, no count falls, and the count of what failed rose
+pub record SealAccounts {T : Type 0} (before now : DiskState) (result : Result T SealFault) : Type 0 where
+  pub keeps : Keeps before now
+  pub read_cause : IsErrOf result seals.ReadFault → Rose before.read_faults now.read_faults
+  pub write_cause : IsErrOf result seals.WriteFault → Rose before.write_faults now.write_faults
+  pub gate_cause : IsErrOf result seals.GateFault → Rose before.write_faults now.write_faults
+
+-- and so does a sync
+pub record SyncAccounts {T : Type 0} (before now : DiskState) (result : Result T SyncFault) : Type 0 where
+  pub keeps : Keeps before now
+  pub read_cause : IsErrOf result syncs.ReadFault → Rose before.read_faults now.read_faults
+  pub write_cause : IsErrOf result syncs.WriteFault → Rose before.write_faults now.write_faults
+  pub gate_cause : IsErrOf result syncs.GateFault → Rose before.write_faults now.write_faults

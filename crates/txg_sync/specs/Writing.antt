@@ -1,5 +1,5 @@
 -- What the stages of a group's sync leave of an image, before its gate may be open and after.
-use Rattle.std.specs.Prelude.{◌≡◌, ◌≢◌, ◌+◌, ◌⊎◌, ◌≤◌, ⊤, ℕ, ◌==◌, false, List, ◌∷◌, [], ◌++◌, length, map, Option, Some, None}
+use Rattle.std.specs.Prelude.{◌≡◌, ◌≢◌, ◌+◌, ◌⊎◌, ◌≤◌, ⊤, ℕ, ◌==◌, false, List, ◌∷◌, [], ◌++◌, length, Option, Some, None}
 use Rattle.std.specs.List.{list_any}
 use Rattle.disk_model.specs.Images.{Image, sector_at}
 use Rattle.page_tree.specs.Chains.{SameBut}
@@ -7,13 +7,10 @@ use Rattle.page_tree.specs.Pointers.{null_pointer}
 use Rattle.uber_ring.specs.Ring.{gate_sector, body_sector, newest}
 use Rattle.uber_ring.specs.declared.seal.Seal.{Seal}
 use Rattle.pool_model.specs.Plain.{Stored}
+use Rattle.table_state.specs.Closing.{block_places}
 use Rattle.table_state.specs.Flat.{flat_version}
 use Rattle.table_state.specs.Pools.{with_blocks}
 use Rattle.table_state.specs.Sealed.{ChainPart, places_in, roots_of, HoldsParts}
-
--- the places of blocks
-abbrev pub block_places : List Stored → List ℕ
-block_places contents = map (λ stored. stored.place) contents
 
 -- told contents in which these blocks stand
 abbrev pub Stores : Option Image → Option Image → List Stored → Type 0

@@ -1,8 +1,9 @@
 ghost use Rattle.std.specs.Prelude.{◌≡◌, ◌≤◌, Some, OnOk, IsErrOf};
 ghost use Rattle.disk_model.specs.Images.{Image, Stays};
 ghost use Rattle.disk_model.specs.Crashes.{LeavesOnly, NothingPending};
-ghost use Rattle.disk_model.specs.Faults.{Rose};
-ghost use Rattle.txg_sync.specs.Stages.{Begins, Beginning, HasNoSeal};
+ghost use Rattle.txg_sync.specs.SyncFaults.{SealAccounts};
+ghost use Rattle.txg_sync.specs.Creating.{HasNoSeal};
+ghost use Rattle.txg_sync.specs.Stages.{Begins, Beginning, Unbegun};
 ghost use Rattle.txg_sync.specs.declared.fault.SealFault.TheVariants.{ReadFault, WriteFault};
 
 use crate::fault::SealFault;
@@ -13,22 +14,22 @@ use table_state::new_seal;
 use uber_ring::{open_slot, seal_fits};
 
 /// Seals the empty pool of group 1, for a key function with this tag, on a disk on which no seal counts. The
-/// pool has the disk's sectors, 2,048 to 1,000,000. Takes no memory.
+/// pool has the disk's sectors, 2,048 to 1,000,000. `WriteFault` comes before the gate is written, and `GateFault`
+/// from then on. Takes no memory.
 pub fn seal_new_pool<D: Disk>(disk: &mut D, tag: u8) -> Result<(), SealFault>
-    requires enough { 2048 ≤ D.sectors_of disk.old }
-    requires few { D.sectors_of disk.old ≤ 1000000 }
-    requires none { HasNoSeal (D.seen disk.old) }
-    ensures sectors { D.sectors_of disk.new ≡ D.sectors_of disk.old }
-    ensures sealed { OnOk result (Begins tag (D.seen disk.old) (D.seen disk.new)) }
-    ensures durable { OnOk result (NothingPending (D.seen disk.new) (D.may_leave disk.new)) }
-    ensures any_moment { (image : Image) → D.seen disk.old ≡ Some image → NothingPending (Some image) (D.may_leave disk.old)
-        → LeavesOnly D.clock D.left_since disk.old disk.new (Beginning tag image) }
-    ensures unread { IsErrOf result ReadFault → Stays (D.seen disk.old) (D.seen disk.new) }
-    ensures unread_crash { IsErrOf result ReadFault → (c : Image) → D.may_leave disk.new c → D.may_leave disk.old c }
-    ensures reads { D.read_faults disk.old ≤ D.read_faults disk.new }
-    ensures writes { D.write_faults disk.old ≤ D.write_faults disk.new }
-    ensures read_cause { IsErrOf result ReadFault → Rose (D.read_faults disk.old) (D.read_faults disk.new) }
-    ensures write_cause { IsErrOf result WriteFault → Rose (D.write_faults disk.old) (D.write_faults disk.new) }
+    requires enough { 2048 ≤ (D.state disk.old).sectors }
+    requires few { (D.state disk.old).sectors ≤ 1000000 }
+    requires none { HasNoSeal (D.state disk.old).seen }
+    ensures sealed { OnOk result (Begins tag (D.state disk.old).seen (D.state disk.new).seen) }
+    ensures durable { OnOk result (NothingPending (D.state disk.new).seen (D.state disk.new).may_leave) }
+    ensures any_moment { (image : Image) → (D.state disk.old).seen ≡ Some image → NothingPending (Some image) (D.state disk.old).may_leave
+        → LeavesOnly (D.state disk.old) (D.state disk.new) (Beginning tag image) }
+    ensures before_the_gate { (image : Image) → (D.state disk.old).seen ≡ Some image
+        → NothingPending (Some image) (D.state disk.old).may_leave → IsErrOf result WriteFault
+        → LeavesOnly (D.state disk.old) (D.state disk.new) (Unbegun image) }
+    ensures unread { IsErrOf result ReadFault → Stays (D.state disk.old).seen (D.state disk.new).seen }
+    ensures unread_crash { IsErrOf result ReadFault → (c : Image) → (D.state disk.new).may_leave c → (D.state disk.old).may_leave c }
+    ensures accounts { SealAccounts (D.state disk.old) (D.state disk.new) result }
 {
     crash_laws(disk);
     let seal = new_seal(tag, disk.sectors());
@@ -38,7 +39,7 @@ pub fn seal_new_pool<D: Disk>(disk: &mut D, tag: u8) -> Result<(), SealFault>
         return Err(SealFault::WriteFault);
     };
     let Ok(()) = open_slot(disk, 1) else {
-        return Err(SealFault::WriteFault);
+        return Err(SealFault::GateFault);
     };
     Ok(())
 }

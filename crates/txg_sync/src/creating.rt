@@ -2,10 +2,12 @@ ghost use Rattle.std.specs.Prelude.{◌≡◌, ◌≤◌, ℕ, Some, IfOk, OnOk,
 ghost use Rattle.disk_model.specs.Images.{Image, Stays};
 ghost use Rattle.disk_model.specs.Crashes.{LeavesOnly, NothingPending};
 ghost use Rattle.disk_model.specs.Faults.{Rose};
-ghost use Rattle.pool_model.specs.declared.faults.SyncFault.TheVariants.{ReadFault, WriteFault, Damaged, Memory};
-ghost use Rattle.table_state.specs.Sound.{IsSound};
+ghost use Rattle.pool_model.specs.declared.faults.SyncFault.TheVariants.{ReadFault, WriteFault, GateFault, Damaged, Memory};
+ghost use Rattle.table_state.specs.Flat.{HasNoPool};
 ghost use Rattle.table_state.specs.Pools.{new_held};
-ghost use Rattle.txg_sync.specs.Stages.{Beginning, Creates, HasNoSeal};
+ghost use Rattle.table_state.specs.Sound.{IsSound};
+ghost use Rattle.txg_sync.specs.Creating.{NoneOrNew, Creates, HasNoSeal};
+ghost use Rattle.txg_sync.specs.Stages.{SameOutside};
 
 use crate::begin::seal_new_pool;
 use crate::syncing::told;
@@ -37,25 +39,32 @@ fn new_pool(alloc: Global, tag: u8, sectors: u64) -> Result<Pool, AllocError>
 
 /// Creates a pool: seals the empty pool of group 1, for a key function with this tag, on a disk on which no seal
 /// counts. The pool has the disk's sectors, 2,048 to 1,000,000. All memory is taken before anything is written.
+/// `WriteFault` comes before the gate of the seal is written, `GateFault` from then on.
 pub fn create<D: Disk>(alloc: Global, disk: &mut D, tag: u8) -> Result<Pool, SyncFault>
-    requires enough { 2048 ≤ D.sectors_of disk.old }
-    requires few { D.sectors_of disk.old ≤ 1000000 }
-    requires none { HasNoSeal (D.seen disk.old) }
-    ensures sectors { D.sectors_of disk.new ≡ D.sectors_of disk.old }
-    ensures made { IfOk result (λ pool. pool ≡ new_held tag (D.sectors_of disk.old)) }
+    requires enough { 2048 ≤ (D.state disk.old).sectors }
+    requires few { (D.state disk.old).sectors ≤ 1000000 }
+    requires none { HasNoSeal (D.state disk.old).seen }
+    ensures sectors { (D.state disk.new).sectors ≡ (D.state disk.old).sectors }
+    ensures made { IfOk result (λ pool. pool ≡ new_held tag (D.state disk.old).sectors) }
     ensures sound { IfOk result IsSound }
-    ensures created { IfOk result (Creates (D.seen disk.old) (D.seen disk.new)) }
-    ensures durable { OnOk result (NothingPending (D.seen disk.new) (D.may_leave disk.new)) }
-    ensures any_moment { (image : Image) → D.seen disk.old ≡ Some image → NothingPending (Some image) (D.may_leave disk.old)
-        → LeavesOnly D.clock D.left_since disk.old disk.new (Beginning tag image) }
+    ensures created { IfOk result (Creates (D.state disk.old).seen (D.state disk.new).seen (D.state disk.old).sectors) }
+    ensures durable { OnOk result (NothingPending (D.state disk.new).seen (D.state disk.new).may_leave) }
+    ensures any_moment { (image : Image) → (D.state disk.old).seen ≡ Some image → NothingPending (Some image) (D.state disk.old).may_leave
+        → LeavesOnly (D.state disk.old) (D.state disk.new) (NoneOrNew tag (D.state disk.old).sectors) }
+    ensures outside { (image : Image) → (D.state disk.old).seen ≡ Some image → NothingPending (Some image) (D.state disk.old).may_leave
+        → LeavesOnly (D.state disk.old) (D.state disk.new) (SameOutside 1 image) }
+    ensures before_the_gate { (image : Image) → (D.state disk.old).seen ≡ Some image
+        → NothingPending (Some image) (D.state disk.old).may_leave → IsErrOf result WriteFault
+        → LeavesOnly (D.state disk.old) (D.state disk.new) HasNoPool }
     ensures unwritten { IsErrOf result Memory → disk.new ≡ disk.old }
     ensures whole { (sector : ℕ) → IsErrOf result (Damaged sector) → ⊥ }
-    ensures unread { IsErrOf result ReadFault → Stays (D.seen disk.old) (D.seen disk.new) }
-    ensures unread_crash { IsErrOf result ReadFault → (c : Image) → D.may_leave disk.new c → D.may_leave disk.old c }
-    ensures reads { D.read_faults disk.old ≤ D.read_faults disk.new }
-    ensures writes { D.write_faults disk.old ≤ D.write_faults disk.new }
-    ensures read_cause { IsErrOf result ReadFault → Rose (D.read_faults disk.old) (D.read_faults disk.new) }
-    ensures write_cause { IsErrOf result WriteFault → Rose (D.write_faults disk.old) (D.write_faults disk.new) }
+    ensures unread { IsErrOf result ReadFault → Stays (D.state disk.old).seen (D.state disk.new).seen }
+    ensures unread_crash { IsErrOf result ReadFault → (c : Image) → (D.state disk.new).may_leave c → (D.state disk.old).may_leave c }
+    ensures reads { (D.state disk.old).read_faults ≤ (D.state disk.new).read_faults }
+    ensures writes { (D.state disk.old).write_faults ≤ (D.state disk.new).write_faults }
+    ensures read_cause { IsErrOf result ReadFault → Rose (D.state disk.old).read_faults (D.state disk.new).read_faults }
+    ensures write_cause { IsErrOf result WriteFault → Rose (D.state disk.old).write_faults (D.state disk.new).write_faults }
+    ensures gate_cause { IsErrOf result GateFault → Rose (D.state disk.old).write_faults (D.state disk.new).write_faults }
 {
     crash_laws(disk);
     let Ok(pool) = new_pool(alloc, tag, disk.sectors()) else {

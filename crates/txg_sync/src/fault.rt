@@ -3,6 +3,8 @@
 pub enum SealFault {
     /// A read of the disk failed.
     ReadFault,
-    /// A meter, a write or a barrier failed.
+    /// A meter, a write or a barrier failed before the gate was written.
     WriteFault,
+    /// The write of the gate failed, or the barrier behind it.
+    GateFault,
 }

@@ -1,14 +1,14 @@
-ghost use Rattle.std.specs.Prelude.{◌≡◌, ◌≤◌, ◌<◌, [], ℕ, Some, length, map, All, OnOk, IsErrOf};
+ghost use Rattle.std.specs.Prelude.{◌≡◌, ◌≤◌, ◌<◌, [], Some, length, map, All, OnOk, IsErrOf};
 ghost use Rattle.disk_model.specs.Images.{Image, Stays};
 ghost use Rattle.disk_model.specs.Crashes.{LeavesOnly, NothingPending};
-ghost use Rattle.disk_model.specs.Faults.{Rose};
 ghost use Rattle.page_tree.specs.Chains.{pages_for, AreOpen};
 ghost use Rattle.uber_ring.specs.Ring.{slot_of};
 ghost use Rattle.pool_model.specs.Plain.{stored_of};
 ghost use Rattle.table_state.specs.Sealed.{places_in};
+ghost use Rattle.txg_sync.specs.SyncFaults.{SealAccounts};
 ghost use Rattle.txg_sync.specs.Stages.{Fills};
 ghost use Rattle.txg_sync.specs.Writing.{with_roots, group_places, FollowsSeal, IsUnsealed, MayBeSealed, Seals};
-ghost use Rattle.txg_sync.specs.declared.fault.SealFault.TheVariants.{ReadFault, WriteFault};
+ghost use Rattle.txg_sync.specs.declared.fault.SealFault.TheVariants.{ReadFault, WriteFault, GateFault};
 
 use crate::fault::SealFault;
 use crate::fill::fill_slot;
@@ -29,33 +29,33 @@ fn with_pointers(seal: &Seal, pointers: [PagePtr; 6]) -> Seal
 
 /// Writes all of a group but its gate, behind the newest sealed group: takes its slot of the ring, writes its
 /// blocks and the pages of its five chains, and then the body of its seal, whose roots are those of the chains.
-/// Up to its end, also where it fails, a crash leaves the seal that counted before. Takes no memory.
+/// Up to its end, also where it fails, a crash leaves the seal that counted before. It never answers `GateFault`.
+/// Takes no memory.
 pub fn fill_group<D: Disk>(
     disk: &mut D,
     seal: &Seal,
     contents: &[StoredBlock],
     parts: &[ChainPages],
 ) -> Result<(), SealFault>
-    requires enough { 2048 ≤ D.sectors_of disk.old }
-    requires follows { FollowsSeal seal.now.group (D.seen disk.old) }
+    requires enough { 2048 ≤ (D.state disk.old).sectors }
+    requires follows { FollowsSeal seal.now.group (D.state disk.old).seen }
     requires version { seal.now.version ≡ 0 }
     requires behind { All (λ stored. 32 ≤ stored.place) contents.now }
-    requires within { All (λ stored. stored.place < D.sectors_of disk.old) contents.now }
+    requires within { All (λ stored. stored.place < (D.state disk.old).sectors) contents.now }
     requires lengths { All (λ stored. length stored.block.items ≤ 4096) contents.now }
     requires chains { length parts.now ≡ 5 }
     requires pages { All (λ part. length part.places ≡ pages_for (length part.records)) parts.now }
-    requires places { AreOpen (D.sectors_of disk.old) [] (places_in parts.now) }
-    ensures sectors { D.sectors_of disk.new ≡ D.sectors_of disk.old }
-    ensures filled { OnOk result (Fills (map stored_of contents.now) parts.now (with_roots seal.now parts.now) (D.seen disk.old) (D.seen disk.new)) }
-    ensures durable { OnOk result (NothingPending (D.seen disk.new) (D.may_leave disk.new)) }
-    ensures any_moment { (image : Image) → D.seen disk.old ≡ Some image → NothingPending (Some image) (D.may_leave disk.old)
-        → LeavesOnly D.clock D.left_since disk.old disk.new (IsUnsealed (slot_of seal.now.group) (group_places (map stored_of contents.now) parts.now) image) }
-    ensures unread { IsErrOf result ReadFault → Stays (D.seen disk.old) (D.seen disk.new) }
-    ensures unread_crash { IsErrOf result ReadFault → (c : Image) → D.may_leave disk.new c → D.may_leave disk.old c }
-    ensures reads { D.read_faults disk.old ≤ D.read_faults disk.new }
-    ensures writes { D.write_faults disk.old ≤ D.write_faults disk.new }
-    ensures read_cause { IsErrOf result ReadFault → Rose (D.read_faults disk.old) (D.read_faults disk.new) }
-    ensures write_cause { IsErrOf result WriteFault → Rose (D.write_faults disk.old) (D.write_faults disk.new) }
+    requires places { AreOpen (D.state disk.old).sectors [] (places_in parts.now) }
+    ensures filled { OnOk result (Fills (map stored_of contents.now) parts.now (with_roots seal.now parts.now)
+        (D.state disk.old).seen (D.state disk.new).seen) }
+    ensures durable { OnOk result (NothingPending (D.state disk.new).seen (D.state disk.new).may_leave) }
+    ensures any_moment { (image : Image) → (D.state disk.old).seen ≡ Some image → NothingPending (Some image) (D.state disk.old).may_leave
+        → LeavesOnly (D.state disk.old) (D.state disk.new)
+        (IsUnsealed (slot_of seal.now.group) (group_places (map stored_of contents.now) parts.now) image) }
+    ensures unread { IsErrOf result ReadFault → Stays (D.state disk.old).seen (D.state disk.new).seen }
+    ensures unread_crash { IsErrOf result ReadFault → (c : Image) → (D.state disk.new).may_leave c → (D.state disk.old).may_leave c }
+    ensures ungated { IsErrOf result GateFault → ⊥ }
+    ensures accounts { SealAccounts (D.state disk.old) (D.state disk.new) result }
 {
     crash_laws(disk);
     let _sectors = disk.sectors();
@@ -75,40 +75,43 @@ pub fn fill_group<D: Disk>(
     Ok(())
 }
 
-/// Seals a group behind the newest one: writes all of it but its gate, and opens the gate. Takes no memory.
+/// Seals a group behind the newest one: writes all of it but its gate, and opens the gate. `WriteFault` comes
+/// before the gate is written, and `GateFault` from then on. Takes no memory.
 pub fn seal_group<D: Disk>(
     disk: &mut D,
     seal: &Seal,
     contents: &[StoredBlock],
     parts: &[ChainPages],
 ) -> Result<(), SealFault>
-    requires enough { 2048 ≤ D.sectors_of disk.old }
-    requires follows { FollowsSeal seal.now.group (D.seen disk.old) }
+    requires enough { 2048 ≤ (D.state disk.old).sectors }
+    requires follows { FollowsSeal seal.now.group (D.state disk.old).seen }
     requires version { seal.now.version ≡ 0 }
     requires behind { All (λ stored. 32 ≤ stored.place) contents.now }
-    requires within { All (λ stored. stored.place < D.sectors_of disk.old) contents.now }
+    requires within { All (λ stored. stored.place < (D.state disk.old).sectors) contents.now }
     requires lengths { All (λ stored. length stored.block.items ≤ 4096) contents.now }
     requires chains { length parts.now ≡ 5 }
     requires pages { All (λ part. length part.places ≡ pages_for (length part.records)) parts.now }
-    requires places { AreOpen (D.sectors_of disk.old) [] (places_in parts.now) }
-    ensures sectors { D.sectors_of disk.new ≡ D.sectors_of disk.old }
-    ensures sealed { OnOk result (Seals (slot_of seal.now.group) (map stored_of contents.now) parts.now (with_roots seal.now parts.now) (D.seen disk.old) (D.seen disk.new)) }
-    ensures durable { OnOk result (NothingPending (D.seen disk.new) (D.may_leave disk.new)) }
-    ensures any_moment { (image : Image) → D.seen disk.old ≡ Some image → NothingPending (Some image) (D.may_leave disk.old)
-        → LeavesOnly D.clock D.left_since disk.old disk.new (MayBeSealed (slot_of seal.now.group) (map stored_of contents.now) parts.now (with_roots seal.now parts.now) image) }
-    ensures unread { IsErrOf result ReadFault → Stays (D.seen disk.old) (D.seen disk.new) }
-    ensures unread_crash { IsErrOf result ReadFault → (c : Image) → D.may_leave disk.new c → D.may_leave disk.old c }
-    ensures reads { D.read_faults disk.old ≤ D.read_faults disk.new }
-    ensures writes { D.write_faults disk.old ≤ D.write_faults disk.new }
-    ensures read_cause { IsErrOf result ReadFault → Rose (D.read_faults disk.old) (D.read_faults disk.new) }
-    ensures write_cause { IsErrOf result WriteFault → Rose (D.write_faults disk.old) (D.write_faults disk.new) }
+    requires places { AreOpen (D.state disk.old).sectors [] (places_in parts.now) }
+    ensures sealed { OnOk result (Seals (slot_of seal.now.group) (map stored_of contents.now) parts.now (with_roots seal.now parts.now)
+        (D.state disk.old).seen (D.state disk.new).seen) }
+    ensures durable { OnOk result (NothingPending (D.state disk.new).seen (D.state disk.new).may_leave) }
+    ensures any_moment { (image : Image) → (D.state disk.old).seen ≡ Some image → NothingPending (Some image) (D.state disk.old).may_leave
+        → LeavesOnly (D.state disk.old) (D.state disk.new)
+        (MayBeSealed (slot_of seal.now.group) (map stored_of contents.now) parts.now (with_roots seal.now parts.now) image) }
+    ensures before_the_gate { (image : Image) → (D.state disk.old).seen ≡ Some image
+        → NothingPending (Some image) (D.state disk.old).may_leave → IsErrOf result WriteFault
+        → LeavesOnly (D.state disk.old) (D.state disk.new)
+        (IsUnsealed (slot_of seal.now.group) (group_places (map stored_of contents.now) parts.now) image) }
+    ensures unread { IsErrOf result ReadFault → Stays (D.state disk.old).seen (D.state disk.new).seen }
+    ensures unread_crash { IsErrOf result ReadFault → (c : Image) → (D.state disk.new).may_leave c → (D.state disk.old).may_leave c }
+    ensures accounts { SealAccounts (D.state disk.old) (D.state disk.new) result }
 {
     crash_laws(disk);
     let _sectors = disk.sectors();
     fill_group(disk, seal, contents, parts)?;
     let slot = (seal.group % 16) as u32;
     let Ok(()) = open_slot(disk, slot) else {
-        return Err(SealFault::WriteFault);
+        return Err(SealFault::GateFault);
     };
     Ok(())
 }

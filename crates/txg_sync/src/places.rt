@@ -2,8 +2,8 @@ ghost use Rattle.std.specs.Prelude.{◌≡◌, ◌<◌, ◌≤◌, ◌+◌, ℕ,
 ghost use Rattle.page_tree.specs.Chains.{pages_for};
 ghost use Rattle.pool_model.specs.Plain.{stored_of};
 ghost use Rattle.grant_book.specs.Sectors.{marked};
-ghost use Rattle.txg_sync.specs.Placing.{pages_of, parts_of, ArePlaced, LacksRoom};
-ghost use Rattle.txg_sync.specs.Writing.{block_places};
+ghost use Rattle.table_state.specs.Closing.{pages_of, block_places};
+ghost use Rattle.txg_sync.specs.Placing.{parts_of, ArePlaced, LacksRoom};
 
 use crate::part::ChainPages;
 use grant_book::SectorSet;

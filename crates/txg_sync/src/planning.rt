@@ -1,17 +1,17 @@
-ghost use Rattle.std.specs.Prelude.{◌≡◌, ◌≤◌, ◌<◌, ◌+◌, ◌++◌, ◌∷◌, [], ℕ, true, List, slice_index_or, IfOk, IfNone, IfSome};
+ghost use Rattle.std.specs.Prelude.{◌≡◌, ◌≤◌, ◌<◌, ◌+◌, ◌^◌, ◌++◌, ◌∷◌, [], ℕ, true, List, length, slice_index_or, IfOk, IfNone, IfSome};
 ghost use Rattle.std.specs.List.{AllByRecursion};
 ghost use Rattle.ddt_entry.specs.Records.{IsKeyLength};
 ghost use Rattle.page_tree.specs.Pointers.{null_pointer};
 ghost use Rattle.page_tree.specs.declared.pointer.PagePtr.{PagePtr};
-ghost use Rattle.pool_model.specs.Table.{sync_table};
+ghost use Rattle.pool_model.specs.Table.{entries_found, sync_table};
 ghost use Rattle.table_state.specs.SealForms.{last_group};
 ghost use Rattle.table_state.specs.Pools.{slots_after};
 ghost use Rattle.table_state.specs.Sealed.{places_in, records_in, seal_of};
 ghost use Rattle.table_state.specs.Tables.{IsTableWithin};
 ghost use Rattle.table_state.specs.Sound.{IsSound, HasKeyLengths};
-ghost use Rattle.txg_sync.specs.Planning.{group_in, IsMadeOf, IsPlan};
+ghost use Rattle.table_state.specs.Closing.{closed_of, IsInRange, records_after};
+ghost use Rattle.txg_sync.specs.Planning.{IsMadeOf, IsPlan};
 ghost use Rattle.txg_sync.specs.Placing.{ArePlaced, LacksRoom};
-ghost use Rattle.txg_sync.specs.Syncing.{IsInRange, records_after};
 
 use crate::chain_records::records_of;
 use crate::group_seal::seal_of;
@@ -25,9 +25,6 @@ use pool_model::Closed;
 use std::alloc::{AllocError, Global};
 use table_state::{Pool, SlotList, SlotRecord};
 use uber_ring::Seal;
-
-/// The most homes of a table whose counts are added up. No memory holds so many.
-const MOST_HOMES: usize = 1 << 40;
 
 /// What a sync is going to write.
 #[derive(Drop)]
@@ -59,7 +56,7 @@ fn table_of(alloc: Global, pool: &Pool, closed: &Closed) -> Result<PlainTable, A
     table.sync_table(alloc, closed.changes.as_slice())
 }
 
-/// The seal of the group, once it is seen that its homes can be counted. The error is want of memory.
+/// The seal of the group, of whose table few homes are found. The error is want of memory.
 fn seal_after(
     alloc: Global,
     pool: &Pool,
@@ -69,13 +66,10 @@ fn seal_after(
 ) -> Result<Seal, AllocError>
     requires last { pool.now.group + 1 ≤ last_group }
     requires within { IsTableWithin pool.now.sectors (pool.now.group + 1) table.now }
+    requires few { length (entries_found table.now) ≤ 2 ^ 40 }
     ensures { IfOk result (λ seal. (roots : List PagePtr) → record seal { pointers = roots ++ null_pointer ∷ [] }
         ≡ seal_of pool.now.tag pool.now.sectors (pool.now.group + 1) closed.now.modes closed.now.quota table.now roots pages) }
 {
-    let found = table.entries_found(alloc)?;
-    if found.len() > MOST_HOMES {
-        return Err(AllocError);
-    }
     seal_of(
         alloc,
         pool.tag,
@@ -106,8 +100,10 @@ fn chains_of(
 ) -> Result<Option<Vec<ChainPages>>, AllocError>
     requires ring { (sector : ℕ) → sector < 32 → slice_index_or pool.now.used sector true ≡ true }
     requires lengths { HasKeyLengths table.now }
-    ensures placed { IfOk result (λ found. IfSome found (λ parts. ArePlaced pool.now.used (group_in closed.now).contents (records_in slots.now table.now) parts.items)) }
-    ensures room { IfOk result (λ found. IfNone found (LacksRoom pool.now.used (group_in closed.now).contents (records_in slots.now table.now))) }
+    ensures placed { IfOk result (λ found. IfSome found (λ parts.
+        ArePlaced pool.now.used (closed_of closed.now).contents (records_in slots.now table.now) parts.items)) }
+    ensures room { IfOk result (λ found. IfNone found
+        (LacksRoom pool.now.used (closed_of closed.now).contents (records_in slots.now table.now))) }
 {
     let lists = records_of(alloc, slots, table)?;
     place_chains(alloc, &pool.used, closed.contents.as_slice(), lists)
@@ -126,7 +122,7 @@ fn next_of(
     requires last { pool.now.group + 1 ≤ last_group }
     requires slots { AllByRecursion (λ slot. IsKeyLength slot.pointer.key.len) slots.items }
     requires lengths { HasKeyLengths table }
-    ensures { IfOk result (λ next. IsMadeOf pool.now (group_in closed.now) slots.items table pages.items next) }
+    ensures { IfOk result (λ next. IsMadeOf pool.now (closed_of closed.now) slots.items table pages.items next) }
 {
     let used = used_after(
         alloc,
@@ -152,10 +148,12 @@ fn next_of(
 /// than its pages need. The error is want of memory.
 pub fn plan_group(alloc: Global, pool: &Pool, closed: &Closed) -> Result<Option<Plan>, AllocError>
     requires sound { IsSound pool.now }
-    requires range { IsInRange pool.now (group_in closed.now) }
+    requires range { IsInRange pool.now (closed_of closed.now) }
     requires last { pool.now.group + 1 ≤ last_group }
-    ensures planned { IfOk result (λ found. IfSome found (λ plan. IsPlan pool.now (group_in closed.now) plan.next plan.parts.items plan.seal)) }
-    ensures room { IfOk result (λ found. IfNone found (LacksRoom pool.now.used (group_in closed.now).contents (records_after pool.now (group_in closed.now)))) }
+    ensures planned { IfOk result (λ found. IfSome found (λ plan.
+        IsPlan pool.now (closed_of closed.now) plan.next plan.parts.items plan.seal)) }
+    ensures room { IfOk result (λ found. IfNone found
+        (LacksRoom pool.now.used (closed_of closed.now).contents (records_after pool.now (closed_of closed.now)))) }
 {
     let slots = slots_of(alloc, pool, closed)?;
     let table = table_of(alloc, pool, closed)?;

@@ -1,12 +1,12 @@
-ghost use Rattle.std.specs.Prelude.{◌≡◌, ◌≤◌, ◌<◌, ◌++◌, [], ℕ, length, map, drop, All, OnOk};
-ghost use Rattle.disk_model.specs.Images.{Image};
+ghost use Rattle.std.specs.Prelude.{◌≡◌, ◌≤◌, ◌<◌, ◌++◌, [], length, map, drop, All, OnOk};
 ghost use Rattle.disk_model.specs.Crashes.{LeavesOnly};
-ghost use Rattle.disk_model.specs.Faults.{HasCause};
+ghost use Rattle.disk_model.specs.Accounts.{Accounts};
 ghost use Rattle.page_tree.specs.Chains.{pages_for, AreOpen, MayTouchAll, ChainLeaves};
 ghost use Rattle.pool_model.specs.Plain.{stored_of};
 ghost use Rattle.table_state.specs.Pools.{block_sector};
 ghost use Rattle.table_state.specs.Sealed.{places_in, roots_of};
-ghost use Rattle.txg_sync.specs.Writing.{block_places, group_places, Stores, HoldsSince, StoresParts};
+ghost use Rattle.table_state.specs.Closing.{block_places};
+ghost use Rattle.txg_sync.specs.Writing.{group_places, Stores, HoldsSince, StoresParts};
 
 use crate::part::ChainPages;
 use arrayvec::ArrayVec;
@@ -29,15 +29,13 @@ pub fn sector_of(content: &[u8]) -> [u8; 4096]
 
 /// Writes blocks to their places, with no barrier behind them. Takes no memory.
 pub fn write_blocks<D: Disk>(disk: &mut D, contents: &[StoredBlock]) -> Result<(), Failed>
-    requires within { All (λ stored. stored.place < D.sectors_of disk.old) contents.now }
+    requires within { All (λ stored. stored.place < (D.state disk.old).sectors) contents.now }
     requires lengths { All (λ stored. length stored.block.items ≤ 4096) contents.now }
-    ensures sectors { D.sectors_of disk.new ≡ D.sectors_of disk.old }
-    ensures written { OnOk result (Stores (D.seen disk.old) (D.seen disk.new) (map stored_of contents.now)) }
-    ensures touched { MayTouchAll (D.seen disk.old) (D.seen disk.new) (block_places (map stored_of contents.now)) }
-    ensures any_moment { LeavesOnly D.clock D.left_since disk.old disk.new
-        (ChainLeaves (block_places (map stored_of contents.now)) (D.may_leave disk.old)) }
-    ensures reads { D.read_faults disk.old ≤ D.read_faults disk.new }
-    ensures cause { HasCause (D.write_faults disk.old) (D.write_faults disk.new) result }
+    ensures written { OnOk result (Stores (D.state disk.old).seen (D.state disk.new).seen (map stored_of contents.now)) }
+    ensures touched { MayTouchAll (D.state disk.old).seen (D.state disk.new).seen (block_places (map stored_of contents.now)) }
+    ensures any_moment { LeavesOnly (D.state disk.old) (D.state disk.new)
+        (ChainLeaves (block_places (map stored_of contents.now)) (D.state disk.old).may_leave) }
+    ensures accounts { Accounts (D.state disk.old) (D.state disk.new) result }
 {
     crash_laws(disk);
     'each: for stored in contents {
@@ -57,15 +55,13 @@ pub fn write_parts<D: Disk>(
 ) -> Result<(), Failed>
     requires few { length parts.now ≤ 6 }
     requires pages { All (λ part. length part.places ≡ pages_for (length part.records)) parts.now }
-    requires places { AreOpen (D.sectors_of disk.old) [] (places_in parts.now) }
-    ensures sectors { D.sectors_of disk.new ≡ D.sectors_of disk.old }
-    ensures held { OnOk result (HoldsSince (D.seen disk.old) (D.seen disk.new) parts.now) }
+    requires places { AreOpen (D.state disk.old).sectors [] (places_in parts.now) }
+    ensures held { OnOk result (HoldsSince (D.state disk.old).seen (D.state disk.new).seen parts.now) }
     ensures roots { OnOk result (pointers.new ≡ roots_of parts.now ++ drop (length parts.now) pointers.old) }
-    ensures touched { MayTouchAll (D.seen disk.old) (D.seen disk.new) (places_in parts.now) }
-    ensures any_moment { LeavesOnly D.clock D.left_since disk.old disk.new
-        (ChainLeaves (places_in parts.now) (D.may_leave disk.old)) }
-    ensures reads { D.read_faults disk.old ≤ D.read_faults disk.new }
-    ensures cause { HasCause (D.write_faults disk.old) (D.write_faults disk.new) result }
+    ensures touched { MayTouchAll (D.state disk.old).seen (D.state disk.new).seen (places_in parts.now) }
+    ensures any_moment { LeavesOnly (D.state disk.old) (D.state disk.new)
+        (ChainLeaves (places_in parts.now) (D.state disk.old).may_leave) }
+    ensures accounts { Accounts (D.state disk.old) (D.state disk.new) result }
 {
     crash_laws(disk);
     let _sectors = disk.sectors();
@@ -86,19 +82,17 @@ pub fn store_group<D: Disk>(
     parts: &[ChainPages],
     pointers: &mut [PagePtr; 6],
 ) -> Result<(), Failed>
-    requires within { All (λ stored. stored.place < D.sectors_of disk.old) contents.now }
+    requires within { All (λ stored. stored.place < (D.state disk.old).sectors) contents.now }
     requires lengths { All (λ stored. length stored.block.items ≤ 4096) contents.now }
     requires few { length parts.now ≤ 6 }
     requires pages { All (λ part. length part.places ≡ pages_for (length part.records)) parts.now }
-    requires places { AreOpen (D.sectors_of disk.old) [] (places_in parts.now) }
-    ensures sectors { D.sectors_of disk.new ≡ D.sectors_of disk.old }
-    ensures stored { OnOk result (StoresParts (map stored_of contents.now) parts.now (D.seen disk.old) (D.seen disk.new)) }
+    requires places { AreOpen (D.state disk.old).sectors [] (places_in parts.now) }
+    ensures stored { OnOk result (StoresParts (map stored_of contents.now) parts.now (D.state disk.old).seen (D.state disk.new).seen) }
     ensures roots { OnOk result (pointers.new ≡ roots_of parts.now ++ drop (length parts.now) pointers.old) }
-    ensures touched { MayTouchAll (D.seen disk.old) (D.seen disk.new) (group_places (map stored_of contents.now) parts.now) }
-    ensures any_moment { LeavesOnly D.clock D.left_since disk.old disk.new
-        (ChainLeaves (group_places (map stored_of contents.now) parts.now) (D.may_leave disk.old)) }
-    ensures reads { D.read_faults disk.old ≤ D.read_faults disk.new }
-    ensures cause { HasCause (D.write_faults disk.old) (D.write_faults disk.new) result }
+    ensures touched { MayTouchAll (D.state disk.old).seen (D.state disk.new).seen (group_places (map stored_of contents.now) parts.now) }
+    ensures any_moment { LeavesOnly (D.state disk.old) (D.state disk.new)
+        (ChainLeaves (group_places (map stored_of contents.now) parts.now) (D.state disk.old).may_leave) }
+    ensures accounts { Accounts (D.state disk.old) (D.state disk.new) result }
 {
     write_blocks(disk, contents)?;
     crash_laws(disk);

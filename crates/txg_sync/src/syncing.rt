@@ -1,17 +1,16 @@
-ghost use Rattle.std.specs.Prelude.{◌≡◌, ◌≤◌, ◌+◌, ℕ, Some, None, length, IfOk, OnOk, OnErr, IsErrOf};
+ghost use Rattle.std.specs.Prelude.{◌≡◌, ◌≤◌, ◌+◌, ℕ, List, Some, None, length, IfOk, OnOk, OnErr, IsErrOf};
 ghost use Rattle.disk_model.specs.Images.{Image, Stays};
 ghost use Rattle.disk_model.specs.Crashes.{LeavesOnly, NothingPending};
 ghost use Rattle.disk_model.specs.Faults.{Rose};
-ghost use Rattle.pool_model.specs.Pool.{Pool as APool};
-ghost use Rattle.pool_model.specs.Table.{TableState};
-ghost use Rattle.pool_model.specs.declared.faults.SyncFault.TheVariants.{ReadFault, WriteFault, Damaged, Memory};
-ghost use Rattle.table_state.specs.Pools.{IsHeld};
+ghost use Rattle.pool_model.specs.Group.{Standing};
+ghost use Rattle.pool_model.specs.declared.faults.SyncFault.TheVariants.{ReadFault, WriteFault, GateFault, Damaged, Memory};
+ghost use Rattle.table_state.specs.Closing.{closed_of, records_after, pages_of, IsInRange, CanSyncOver};
+ghost use Rattle.table_state.specs.Holding.{StandsOver};
 ghost use Rattle.table_state.specs.SealForms.{last_group};
 ghost use Rattle.table_state.specs.Sound.{IsSound};
-ghost use Rattle.txg_sync.specs.Placing.{pages_of};
-ghost use Rattle.txg_sync.specs.Planning.{group_in, IsNext, IsPlan};
+ghost use Rattle.txg_sync.specs.Syncing.{Syncs, SyncLeaves, BeforeGate};
+ghost use Rattle.txg_sync.specs.Planning.{IsNext, IsPlan};
 ghost use Rattle.txg_sync.specs.SyncFaults.{sync_fault_of};
-ghost use Rattle.txg_sync.specs.Syncing.{IsInRange, CanSync, CanSyncOver, SyncLeaves, Syncs, records_after};
 
 use crate::fault::SealFault;
 use crate::fits::{slots_fit, table_fits};
@@ -25,7 +24,8 @@ use table_state::Pool;
 /// Syncs a group that was closed, behind the newest sealed one: plans it, and seals it. Answers the number of
 /// the group, of which `pool` is the pool from then on; after a fault `pool` is as it was, and what the disk
 /// holds is to be imported again. `Memory` and `Damaged` come before anything is written; `Damaged` comes only over
-/// a disk that doesn't tell its contents, where fewer sectors are free than the group's pages need.
+/// a disk that doesn't tell its contents, where fewer sectors are free than the group's pages need. `WriteFault`
+/// comes before the gate of the group's seal is written, `GateFault` from then on.
 pub fn sync<D: Disk>(
     alloc: Global,
     pool: &mut Pool,
@@ -33,28 +33,36 @@ pub fn sync<D: Disk>(
     closed: &Closed,
 ) -> Result<u64, SyncFault>
     requires sound { IsSound pool.old }
-    requires range { IsInRange pool.old (group_in closed.now) }
+    requires range { IsInRange pool.old (closed_of closed.now) }
     requires last { pool.old.group + 1 ≤ last_group }
-    requires on_disk { pool.old.sectors ≤ D.sectors_of disk.old }
-    requires over { CanSyncOver (D.seen disk.old) pool.old (group_in closed.now) }
-    ensures sectors { D.sectors_of disk.new ≡ D.sectors_of disk.old }
+    requires on_disk { pool.old.sectors ≤ (D.state disk.old).sectors }
+    requires over { CanSyncOver (D.state disk.old).seen pool.old (closed_of closed.now) }
+    ensures sectors { (D.state disk.new).sectors ≡ (D.state disk.old).sectors }
     ensures number { IfOk result (λ number. (number ≡ pool.old.group + 1) × (number ≡ pool.new.group)) }
-    ensures synced { OnOk result (Syncs (D.seen disk.old) pool.old (group_in closed.now) pool.new (D.seen disk.new)) }
-    ensures made { OnOk result (IsNext pool.old (group_in closed.now) pool.new.pages pool.new) }
-    ensures pages { OnOk result (length pool.new.pages ≡ pages_of (records_after pool.old (group_in closed.now))) }
+    ensures made { OnOk result (IsNext pool.old (closed_of closed.now) pool.new.pages pool.new) }
+    ensures size { OnOk result ((pool.new.sectors ≡ pool.old.sectors) × (pool.new.tag ≡ pool.old.tag)) }
+    ensures synced { OnOk result (Syncs (D.state disk.old).seen pool.old (closed_of closed.now) pool.new (D.state disk.new).seen) }
+    ensures pages { OnOk result (length pool.new.pages ≡ pages_of (records_after pool.old (closed_of closed.now))) }
     ensures next { OnOk result (IsSound pool.new) }
     ensures kept { OnErr result (pool.new ≡ pool.old) }
-    ensures durable { OnOk result (NothingPending (D.seen disk.new) (D.may_leave disk.new)) }
-    ensures any_moment { (image : Image) (before : APool) (table : TableState) → D.seen disk.old ≡ Some image → NothingPending (Some image) (D.may_leave disk.old)
-        → IsHeld image pool.old before table → LeavesOnly D.clock D.left_since disk.old disk.new (SyncLeaves image pool.old (group_in closed.now) before table) }
+    ensures durable { OnOk result (NothingPending (D.state disk.new).seen (D.state disk.new).may_leave) }
+    ensures any_moment { (image : Image) (s : Standing) → (D.state disk.old).seen ≡ Some image
+        → NothingPending (Some image) (D.state disk.old).may_leave → StandsOver image pool.old s
+        → (pages : List ℕ) × (length pages ≡ pages_of (records_after pool.old (closed_of closed.now)))
+        × OnOk result (pages ≡ pool.new.pages)
+        × LeavesOnly (D.state disk.old) (D.state disk.new) (SyncLeaves image pool.old (closed_of closed.now) s pages) }
+    ensures before_the_gate { (image : Image) (s : Standing) → (D.state disk.old).seen ≡ Some image
+        → NothingPending (Some image) (D.state disk.old).may_leave → StandsOver image pool.old s → IsErrOf result WriteFault
+        → LeavesOnly (D.state disk.old) (D.state disk.new) (BeforeGate image pool.old s) }
     ensures unwritten { IsErrOf result Memory → disk.new ≡ disk.old }
-    ensures damaged { (sector : ℕ) → IsErrOf result (Damaged sector) → (disk.new ≡ disk.old) × (D.seen disk.old ≡ None) }
-    ensures unread { IsErrOf result ReadFault → Stays (D.seen disk.old) (D.seen disk.new) }
-    ensures unread_crash { IsErrOf result ReadFault → (c : Image) → D.may_leave disk.new c → D.may_leave disk.old c }
-    ensures reads { D.read_faults disk.old ≤ D.read_faults disk.new }
-    ensures writes { D.write_faults disk.old ≤ D.write_faults disk.new }
-    ensures read_cause { IsErrOf result ReadFault → Rose (D.read_faults disk.old) (D.read_faults disk.new) }
-    ensures write_cause { IsErrOf result WriteFault → Rose (D.write_faults disk.old) (D.write_faults disk.new) }
+    ensures damaged { (sector : ℕ) → IsErrOf result (Damaged sector) → (disk.new ≡ disk.old) × ((D.state disk.old).seen ≡ None) }
+    ensures unread { IsErrOf result ReadFault → Stays (D.state disk.old).seen (D.state disk.new).seen }
+    ensures unread_crash { IsErrOf result ReadFault → (c : Image) → (D.state disk.new).may_leave c → (D.state disk.old).may_leave c }
+    ensures reads { (D.state disk.old).read_faults ≤ (D.state disk.new).read_faults }
+    ensures writes { (D.state disk.old).write_faults ≤ (D.state disk.new).write_faults }
+    ensures read_cause { IsErrOf result ReadFault → Rose (D.state disk.old).read_faults (D.state disk.new).read_faults }
+    ensures write_cause { IsErrOf result WriteFault → Rose (D.state disk.old).write_faults (D.state disk.new).write_faults }
+    ensures gate_cause { IsErrOf result GateFault → Rose (D.state disk.old).write_faults (D.state disk.new).write_faults }
 {
     crash_laws(disk);
     let _sectors = disk.sectors();
@@ -75,29 +83,37 @@ fn write_plan<D: Disk>(
     planned: Plan,
 ) -> Result<u64, SyncFault>
     requires sound { IsSound pool.old }
-    requires range { IsInRange pool.old (group_in closed.now) }
+    requires range { IsInRange pool.old (closed_of closed.now) }
     requires last { pool.old.group + 1 ≤ last_group }
-    requires on_disk { pool.old.sectors ≤ D.sectors_of disk.old }
-    requires over { CanSyncOver (D.seen disk.old) pool.old (group_in closed.now) }
-    requires planned { IsPlan pool.old (group_in closed.now) planned.next planned.parts.items planned.seal }
-    ensures sectors { D.sectors_of disk.new ≡ D.sectors_of disk.old }
+    requires on_disk { pool.old.sectors ≤ (D.state disk.old).sectors }
+    requires over { CanSyncOver (D.state disk.old).seen pool.old (closed_of closed.now) }
+    requires planned { IsPlan pool.old (closed_of closed.now) planned.next planned.parts.items planned.seal }
+    ensures sectors { (D.state disk.new).sectors ≡ (D.state disk.old).sectors }
     ensures number { IfOk result (λ number. (number ≡ pool.old.group + 1) × (number ≡ pool.new.group)) }
-    ensures synced { OnOk result (Syncs (D.seen disk.old) pool.old (group_in closed.now) pool.new (D.seen disk.new)) }
-    ensures made { OnOk result (IsNext pool.old (group_in closed.now) pool.new.pages pool.new) }
-    ensures pages { OnOk result (length pool.new.pages ≡ pages_of (records_after pool.old (group_in closed.now))) }
+    ensures made { OnOk result (IsNext pool.old (closed_of closed.now) pool.new.pages pool.new) }
+    ensures size { OnOk result ((pool.new.sectors ≡ pool.old.sectors) × (pool.new.tag ≡ pool.old.tag)) }
+    ensures synced { OnOk result (Syncs (D.state disk.old).seen pool.old (closed_of closed.now) pool.new (D.state disk.new).seen) }
+    ensures pages { OnOk result (length pool.new.pages ≡ pages_of (records_after pool.old (closed_of closed.now))) }
     ensures next { OnOk result (IsSound pool.new) }
     ensures kept { OnErr result (pool.new ≡ pool.old) }
-    ensures durable { OnOk result (NothingPending (D.seen disk.new) (D.may_leave disk.new)) }
-    ensures any_moment { (image : Image) (before : APool) (table : TableState) → D.seen disk.old ≡ Some image → NothingPending (Some image) (D.may_leave disk.old)
-        → IsHeld image pool.old before table → LeavesOnly D.clock D.left_since disk.old disk.new (SyncLeaves image pool.old (group_in closed.now) before table) }
+    ensures durable { OnOk result (NothingPending (D.state disk.new).seen (D.state disk.new).may_leave) }
+    ensures any_moment { (image : Image) (s : Standing) → (D.state disk.old).seen ≡ Some image
+        → NothingPending (Some image) (D.state disk.old).may_leave → StandsOver image pool.old s
+        → (pages : List ℕ) × (length pages ≡ pages_of (records_after pool.old (closed_of closed.now)))
+        × OnOk result (pages ≡ pool.new.pages)
+        × LeavesOnly (D.state disk.old) (D.state disk.new) (SyncLeaves image pool.old (closed_of closed.now) s pages) }
+    ensures before_the_gate { (image : Image) (s : Standing) → (D.state disk.old).seen ≡ Some image
+        → NothingPending (Some image) (D.state disk.old).may_leave → StandsOver image pool.old s → IsErrOf result WriteFault
+        → LeavesOnly (D.state disk.old) (D.state disk.new) (BeforeGate image pool.old s) }
     ensures device { IsErrOf result Memory → ⊥ }
     ensures whole { (sector : ℕ) → IsErrOf result (Damaged sector) → ⊥ }
-    ensures unread { IsErrOf result ReadFault → Stays (D.seen disk.old) (D.seen disk.new) }
-    ensures unread_crash { IsErrOf result ReadFault → (c : Image) → D.may_leave disk.new c → D.may_leave disk.old c }
-    ensures reads { D.read_faults disk.old ≤ D.read_faults disk.new }
-    ensures writes { D.write_faults disk.old ≤ D.write_faults disk.new }
-    ensures read_cause { IsErrOf result ReadFault → Rose (D.read_faults disk.old) (D.read_faults disk.new) }
-    ensures write_cause { IsErrOf result WriteFault → Rose (D.write_faults disk.old) (D.write_faults disk.new) }
+    ensures unread { IsErrOf result ReadFault → Stays (D.state disk.old).seen (D.state disk.new).seen }
+    ensures unread_crash { IsErrOf result ReadFault → (c : Image) → (D.state disk.new).may_leave c → (D.state disk.old).may_leave c }
+    ensures reads { (D.state disk.old).read_faults ≤ (D.state disk.new).read_faults }
+    ensures writes { (D.state disk.old).write_faults ≤ (D.state disk.new).write_faults }
+    ensures read_cause { IsErrOf result ReadFault → Rose (D.state disk.old).read_faults (D.state disk.new).read_faults }
+    ensures write_cause { IsErrOf result WriteFault → Rose (D.state disk.old).write_faults (D.state disk.new).write_faults }
+    ensures gate_cause { IsErrOf result GateFault → Rose (D.state disk.old).write_faults (D.state disk.new).write_faults }
 {
     let _sectors = disk.sectors();
     let Plan { next, parts, seal } = planned;
@@ -119,5 +135,6 @@ pub(crate) fn told(fault: SealFault) -> SyncFault
     match fault {
         SealFault::ReadFault => SyncFault::ReadFault,
         SealFault::WriteFault => SyncFault::WriteFault,
+        SealFault::GateFault => SyncFault::GateFault,
     }
 }

@@ -156,15 +156,18 @@ fn a_fault_is_told_as_what_it_was(rt: HostRuntime) -> Result<(), Fail> {
     disk.fail_reads(2, 1, 1);
     assert_eq!(rt; begin(&rt, &mut disk), Err(SealFault::ReadFault));
     assert_eq!(rt; newest_group(&mut disk)?, 0);
-    for failing in [1, 2, 3, 4, 5, 6] {
+    for (failing, fault) in [
+        (1, SealFault::WriteFault),
+        (2, SealFault::WriteFault),
+        (3, SealFault::WriteFault),
+        (4, SealFault::WriteFault),
+        (5, SealFault::GateFault),
+        (6, SealFault::GateFault),
+    ] {
         let mut disk = MemDisk::new(rt.alloc(), 2048)?;
         let searched = disk.calls_made().saturating_add(1);
         disk.fail_call(searched.saturating_add(failing));
-        assert_eq!(rt;
-            begin(&rt, &mut disk),
-            Err(SealFault::WriteFault),
-            "call {failing} fails"
-        );
+        assert_eq!(rt; begin(&rt, &mut disk), Err(fault), "call {failing} fails");
     }
     Ok(())
 }

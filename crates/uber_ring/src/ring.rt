@@ -1,6 +1,7 @@
 ghost use Rattle.std.specs.Prelude.{◌≡◌, ◌≤◌, ◌<◌, ◌%◌, ◌*◌, ◌+◌, ℕ, Option, IfOk, IfSome, OnOk, OnErr};
 ghost use Rattle.disk_model.specs.Images.{Holds, MayTouch, TellsImage};
 ghost use Rattle.disk_model.specs.Crashes.{LeavesOnly, NothingPending};
+ghost use Rattle.disk_model.specs.Accounts.{Accounts};
 ghost use Rattle.disk_model.specs.Faults.{HasCause};
 ghost use Rattle.uber_ring.specs.Seals.{body_bytes, open_gate};
 ghost use Rattle.uber_ring.specs.Ring.{slot_of, gate_sector, body_sector, gate_is_open, seal_at, higher, newest, ClosingLeaves, OpeningLeaves, WritingLeaves, Closes, MayClose};
@@ -19,7 +20,7 @@ pub const FEWEST_SECTORS: u64 = 2048;
 /// The seal that counts: the valid one of the highest group, for a program that reads this version.
 /// `None` exactly where no slot is valid. Takes no memory.
 pub fn find<D: Disk>(disk: &D, meter: &mut D::Meter, version: u32) -> Result<Option<Seal>, Failed>
-    ensures found { IfOk result (λ found. IfSome (D.seen disk.now) (λ image. found ≡ newest version image)) }
+    ensures found { IfOk result (λ found. IfSome (D.state disk.now).seen (λ image. found ≡ newest version image)) }
     ensures cause { HasCause (D.meter_faults meter.old) (D.meter_faults meter.new) result }
 {
     if disk.sectors() < FEWEST_SECTORS {
@@ -50,10 +51,10 @@ fn valid_seal<D: Disk>(
     version: u32,
     slot: u32,
 ) -> Result<Option<Seal>, Failed>
-    requires pool { 2048 ≤ D.sectors_of disk.now }
-    requires told { TellsImage (D.sectors_of disk.now) (D.seen disk.now) }
+    requires pool { 2048 ≤ (D.state disk.now).sectors }
+    requires told { TellsImage (D.state disk.now).sectors (D.state disk.now).seen }
     requires slot { slot < 16 }
-    ensures seal { IfOk result (λ seal. IfSome (D.seen disk.now) (λ image. seal ≡ seal_at version image slot)) }
+    ensures seal { IfOk result (λ seal. IfSome (D.state disk.now).seen (λ image. seal ≡ seal_at version image slot)) }
     ensures cause { HasCause (D.meter_faults meter.old) (D.meter_faults meter.new) result }
 {
     if !gate_open(disk, meter, slot)? {
@@ -66,9 +67,9 @@ fn valid_seal<D: Disk>(
 
 /// Whether a slot's gate reads open. Takes no memory.
 pub fn gate_open<D: Disk>(disk: &D, meter: &mut D::Meter, slot: u32) -> Result<bool, Failed>
-    requires ring { 32 ≤ D.sectors_of disk.now }
+    requires ring { 32 ≤ (D.state disk.now).sectors }
     requires slot { slot < 16 }
-    ensures gate { IfOk result (λ is_open. IfSome (D.seen disk.now) (λ image. is_open ≡ gate_is_open image slot)) }
+    ensures gate { IfOk result (λ is_open. IfSome (D.state disk.now).seen (λ image. is_open ≡ gate_is_open image slot)) }
     ensures cause { HasCause (D.meter_faults meter.old) (D.meter_faults meter.new) result }
 {
     let mut gate = [0u8; 4096];
@@ -80,16 +81,14 @@ pub fn gate_open<D: Disk>(disk: &D, meter: &mut D::Meter, slot: u32) -> Result<b
 /// written: a torn write of it could read as open before a body that an earlier attempt left.
 /// Takes no memory.
 pub fn close_slot<D: Disk>(disk: &mut D, slot: u32, was_open: bool) -> Result<(), Failed>
-    requires ring { 32 ≤ D.sectors_of disk.old }
+    requires ring { 32 ≤ (D.state disk.old).sectors }
     requires slot { slot < 16 }
-    ensures sectors { D.sectors_of disk.new ≡ D.sectors_of disk.old }
-    ensures closed { OnOk result (Closes slot was_open (D.seen disk.old) (D.seen disk.new)) }
-    ensures touched { OnErr result (MayClose slot was_open (D.seen disk.old) (D.seen disk.new)) }
-    ensures durable { OnOk result (NothingPending (D.seen disk.new) (D.may_leave disk.new)) }
-    ensures any_moment { LeavesOnly D.clock D.left_since disk.old disk.new
-        (ClosingLeaves slot was_open (D.may_leave disk.old)) }
-    ensures reads { D.read_faults disk.old ≤ D.read_faults disk.new }
-    ensures cause { HasCause (D.write_faults disk.old) (D.write_faults disk.new) result }
+    ensures closed { OnOk result (Closes slot was_open (D.state disk.old).seen (D.state disk.new).seen) }
+    ensures touched { OnErr result (MayClose slot was_open (D.state disk.old).seen (D.state disk.new).seen) }
+    ensures durable { OnOk result (NothingPending (D.state disk.new).seen (D.state disk.new).may_leave) }
+    ensures any_moment { LeavesOnly (D.state disk.old) (D.state disk.new)
+        (ClosingLeaves slot was_open (D.state disk.old).may_leave) }
+    ensures accounts { Accounts (D.state disk.old) (D.state disk.new) result }
 {
     crash_laws(disk);
     if !was_open {
@@ -101,16 +100,14 @@ pub fn close_slot<D: Disk>(disk: &mut D, slot: u32, was_open: bool) -> Result<()
 
 /// Writes the body of a seal into its group's slot, with no barrier behind it. Takes no memory.
 pub fn write_body<D: Disk>(disk: &mut D, seal: &Seal) -> Result<(), Failed>
-    requires ring { 32 ≤ D.sectors_of disk.old }
-    ensures sectors { D.sectors_of disk.new ≡ D.sectors_of disk.old }
-    ensures written { OnOk result (Holds (D.seen disk.old) (D.seen disk.new)
+    requires ring { 32 ≤ (D.state disk.old).sectors }
+    ensures written { OnOk result (Holds (D.state disk.old).seen (D.state disk.new).seen
         (body_sector (slot_of seal.now.group)) (body_bytes seal.now)) }
-    ensures touched { OnErr result (MayTouch (D.seen disk.old) (D.seen disk.new)
+    ensures touched { OnErr result (MayTouch (D.state disk.old).seen (D.state disk.new).seen
         (body_sector (slot_of seal.now.group))) }
-    ensures any_moment { LeavesOnly D.clock D.left_since disk.old disk.new
-        (WritingLeaves (slot_of seal.now.group) (D.may_leave disk.old)) }
-    ensures reads { D.read_faults disk.old ≤ D.read_faults disk.new }
-    ensures cause { HasCause (D.write_faults disk.old) (D.write_faults disk.new) result }
+    ensures any_moment { LeavesOnly (D.state disk.old) (D.state disk.new)
+        (WritingLeaves (slot_of seal.now.group) (D.state disk.old).may_leave) }
+    ensures accounts { Accounts (D.state disk.old) (D.state disk.new) result }
 {
     crash_laws(disk);
     let slot = seal.group % SLOTS as u64;
@@ -119,16 +116,14 @@ pub fn write_body<D: Disk>(disk: &mut D, seal: &Seal) -> Result<(), Failed>
 
 /// Opens a slot's gate, and makes a barrier. Takes no memory.
 pub fn open_slot<D: Disk>(disk: &mut D, slot: u32) -> Result<(), Failed>
-    requires ring { 32 ≤ D.sectors_of disk.old }
+    requires ring { 32 ≤ (D.state disk.old).sectors }
     requires slot { slot < 16 }
-    ensures sectors { D.sectors_of disk.new ≡ D.sectors_of disk.old }
-    ensures opened { OnOk result (Holds (D.seen disk.old) (D.seen disk.new) (gate_sector slot) open_gate) }
-    ensures touched { OnErr result (MayTouch (D.seen disk.old) (D.seen disk.new) (gate_sector slot)) }
-    ensures durable { OnOk result (NothingPending (D.seen disk.new) (D.may_leave disk.new)) }
-    ensures any_moment { LeavesOnly D.clock D.left_since disk.old disk.new
-        (OpeningLeaves slot (D.may_leave disk.old)) }
-    ensures reads { D.read_faults disk.old ≤ D.read_faults disk.new }
-    ensures cause { HasCause (D.write_faults disk.old) (D.write_faults disk.new) result }
+    ensures opened { OnOk result (Holds (D.state disk.old).seen (D.state disk.new).seen (gate_sector slot) open_gate) }
+    ensures touched { OnErr result (MayTouch (D.state disk.old).seen (D.state disk.new).seen (gate_sector slot)) }
+    ensures durable { OnOk result (NothingPending (D.state disk.new).seen (D.state disk.new).may_leave) }
+    ensures any_moment { LeavesOnly (D.state disk.old) (D.state disk.new)
+        (OpeningLeaves slot (D.state disk.old).may_leave) }
+    ensures accounts { Accounts (D.state disk.old) (D.state disk.new) result }
 {
     crash_laws(disk);
     disk.write(2 * slot as u64, &open_gate_bytes())?;

@@ -1,10 +1,10 @@
 use Rattle.std.proofs.Common.{◌≡◌, map, sym, ap, ◌∙◌, subst}
 use Rattle.pool_stats.specs.declared.reference.Reference.{Reference}
 use Rattle.table_state.specs.Pools.{Held}
-use Rattle.table_state.specs.Tables.{IsTable}
 use Rattle.table_state.specs.declared.slot_record.SlotRecord.{SlotRecord}
 use Rattle.held_stats.specs.Slots.{reference_in}
 use Rattle.held_stats.proofs.Seen.{AreSmall-slots, references_of-held, sorted-held}
+use Rattle.pool_model.specs.Table.{IsTable}
 use Rattle.held_stats.proofs.pool.stats_of_pool.Goals as goal
 
 pub stats-requires : goal.stats-requires
@@ -14,7 +14,7 @@ stats-requires c =
     ∙ ap (map (λ (slot : SlotRecord). slot.pointer.key)) c.as_slice.ensures
     ∙ ap (λ (h : Held). map (λ (slot : SlotRecord). slot.pointer.key) h.slots) c.pool.view_is
     in
-    AreSmall-slots c.args.pool.now c.as_slice-2.result.now c.requires (c.are_few.ensures.few c.if-not-are_few.false) keys
+    AreSmall-slots c.args.pool.now c.as_slice-2.result.now c.requires keys
 
 pub returns : goal.returns
 returns c image p table is =

@@ -1,6 +1,6 @@
 use Rattle.std.proofs.Common.{◌≡◌, map, take}
-use Rattle.table_state.specs.Tables.{IsTable}
 use Rattle.held_stats.specs.Slots.{reference_in}
+use Rattle.pool_model.specs.Table.{IsTable}
 use Rattle.held_stats.proofs.slots.references_in.Given as goal
 
 abbrev pub invariant-slots : goal.invariant-slots

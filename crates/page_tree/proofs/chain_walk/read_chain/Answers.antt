@@ -9,8 +9,8 @@ use Rattle.page_tree.proofs.chain_walk.read_chain.Goals as goal
 
 pub pages-init : goal.pages-init
 pages-init g c =
-    let told = g.D.Disk.seen c.args.disk.now in
-    let sectors = g.D.Disk.sectors_of c.args.disk.now in
+    let told = (g.D.Disk.state c.args.disk.now).seen in
+    let sectors = (g.D.Disk.state c.args.disk.now).sectors in
     let so : ℕ → PagePtr → Type 0 = λ most pointer. IfSome told (λ image. Continues image sectors (chain_in image sectors c.args.named.now.items c.args.root.now) most c.args.named.now.items c.args.out.now.items c.args.out.now.items pointer) in
     let all : sectors ≡ c.sectors-sectors.result - 0 = omega (arith, c.sectors-sectors.ensures.count) in
     let start = told_start told sectors c.args.named.now.items c.args.out.now.items c.args.root.now in
@@ -18,8 +18,8 @@ pages-init g c =
 
 pub returns-then-is_null_pointer-clause-read : goal.returns-then-is_null_pointer-clause-read
 returns-then-is_null_pointer-clause-read g c =
-    let told = g.D.Disk.seen c.args.disk.now in
-    let sectors = g.D.Disk.sectors_of c.args.disk.now in
+    let told = (g.D.Disk.state c.args.disk.now).seen in
+    let sectors = (g.D.Disk.state c.args.disk.now).sectors in
     let whole = λ (image : Image). chain_in image sectors c.args.named.now.items c.args.root.now in
     let most = c.sectors-sectors.result - (c.pages.counter + 1) in
     let left : c.sectors-sectors.result - c.pages.counter ≡ suc most = omega (arith, c.pages-test.true) in
@@ -28,8 +28,8 @@ returns-then-is_null_pointer-clause-read g c =
 
 pub returns-then-not-is_open_to-clause-damaged : goal.returns-then-not-is_open_to-clause-damaged
 returns-then-not-is_open_to-clause-damaged g c sector is =
-    let told = g.D.Disk.seen c.args.disk.now in
-    let sectors = g.D.Disk.sectors_of c.args.disk.now in
+    let told = (g.D.Disk.state c.args.disk.now).seen in
+    let sectors = (g.D.Disk.state c.args.disk.now).sectors in
     let whole = λ (image : Image). chain_in image sectors c.args.named.now.items c.args.root.now in
     let most = c.sectors-sectors.result - (c.pages.counter + 1) in
     let left : c.sectors-sectors.result - c.pages.counter ≡ suc most = omega (arith, c.pages-test.true) in
@@ -38,8 +38,8 @@ returns-then-not-is_open_to-clause-damaged g c sector is =
 
 pub returns-then-not-is_page_of-clause-damaged : goal.returns-then-not-is_page_of-clause-damaged
 returns-then-not-is_page_of-clause-damaged g c sector is =
-    let told = g.D.Disk.seen c.args.disk.now in
-    let sectors = g.D.Disk.sectors_of c.args.disk.now in
+    let told = (g.D.Disk.state c.args.disk.now).seen in
+    let sectors = (g.D.Disk.state c.args.disk.now).sectors in
     let whole = λ (image : Image). chain_in image sectors c.args.named.now.items c.args.root.now in
     let most = c.sectors-sectors.result - (c.pages.counter + 1) in
     let left : c.sectors-sectors.result - c.pages.counter ≡ suc most = omega (arith, c.pages-test.true) in
@@ -52,8 +52,8 @@ take_records-requires g c = count_within c.read.new.out (page_form _ _ (sym c.is
 
 pub pages-preserved : goal.pages-preserved
 pages-preserved g c =
-    let told = g.D.Disk.seen c.args.disk.now in
-    let sectors = g.D.Disk.sectors_of c.args.disk.now in
+    let told = (g.D.Disk.state c.args.disk.now).seen in
+    let sectors = (g.D.Disk.state c.args.disk.now).sectors in
     let whole = λ (image : Image). chain_in image sectors c.args.named.now.items c.args.root.now in
     let most = c.sectors-sectors.result - (c.pages.counter + 1) in
     let left : c.sectors-sectors.result - c.pages.counter ≡ suc most = omega (arith, c.pages-test.true) in

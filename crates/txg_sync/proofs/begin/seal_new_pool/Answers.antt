@@ -1,25 +1,41 @@
 -- Each stage leaves no seal that counts, or the new one.
 use Rattle.std.proofs.Common.{◌≤◌, subst, sym}
-use Rattle.txg_sync.proofs.Sealing.{begins_of, while_taking, while_filling, while_opening}
+use Rattle.txg_sync.proofs.Sealing.{begins_of, unbegun_at_each, while_taking, while_filling, while_opening}
 use Rattle.txg_sync.proofs.begin.seal_new_pool.Goals as goal
 
 pub returns-in_err-take_slot-clause-any_moment : goal.returns-in_err-take_slot-clause-any_moment
 returns-in_err-take_slot-clause-any_moment g c image told pending =
-    while_taking g.D.Disk.clock g.D.Disk.left_since g.D.Disk.may_leave g.D.Disk.seen c.args.tag _ image c.args.disk.now told c.sectors.ensures.told c.requires.none
-    c.take_slot.new.disk (c.take_slot.ensures.any_moment image told pending)
+    unbegun_at_each c.args.tag _ image _ told c.sectors.ensures.told c.requires.none
+    (while_taking c.args.tag _ image _ told c.sectors.ensures.told c.requires.none (c.take_slot.ensures.any_moment image told pending))
+
+pub returns-in_err-take_slot-clause-before_the_gate : goal.returns-in_err-take_slot-clause-before_the_gate
+returns-in_err-take_slot-clause-before_the_gate g c image told pending fault =
+    while_taking c.args.tag _ image _ told c.sectors.ensures.told c.requires.none (c.take_slot.ensures.any_moment image told pending)
 
 pub returns-in_default-clause-any_moment : goal.returns-in_default-clause-any_moment
 returns-in_default-clause-any_moment g c image told pending =
-    while_filling g.D.Disk.clock g.D.Disk.left_since g.D.Disk.may_leave g.D.Disk.seen c.args.tag _ image c.args.disk.now told c.sectors.ensures.told c.requires.none
-    (subst (λ n. 2048 ≤ n) (sym c.sectors.ensures.count) c.requires.enough) (subst (λ n. n ≤ 1000000) (sym c.sectors.ensures.count) c.requires.few) _ c.seal_fits.ensures c.new_seal-seal.ensures
-    c.take_slot.new.disk (c.take_slot.ensures.any_moment image told pending) c.in_ok-take_slot.ensures.taken c.in_ok-take_slot.ensures.durable c.fill_slot.new.disk c.fill_slot.ensures.any_moment
+    unbegun_at_each c.args.tag _ image _ told c.sectors.ensures.told c.requires.none
+    (while_filling c.args.tag _ image _ told c.sectors.ensures.told c.requires.none
+    (subst (λ n. 2048 ≤ n) (sym c.sectors.ensures.count) c.requires.enough)
+    (subst (λ n. n ≤ 1000000) (sym c.sectors.ensures.count) c.requires.few) _ c.seal_fits.ensures c.new_seal-seal.ensures
+    (c.take_slot.ensures.any_moment image told pending) c.in_ok-take_slot.ensures.taken c.in_ok-take_slot.ensures.durable
+    c.fill_slot.ensures.any_moment)
+
+pub returns-in_default-clause-before_the_gate : goal.returns-in_default-clause-before_the_gate
+returns-in_default-clause-before_the_gate g c image told pending fault =
+    while_filling c.args.tag _ image _ told c.sectors.ensures.told c.requires.none
+    (subst (λ n. 2048 ≤ n) (sym c.sectors.ensures.count) c.requires.enough)
+    (subst (λ n. n ≤ 1000000) (sym c.sectors.ensures.count) c.requires.few) _ c.seal_fits.ensures c.new_seal-seal.ensures
+    (c.take_slot.ensures.any_moment image told pending) c.in_ok-take_slot.ensures.taken c.in_ok-take_slot.ensures.durable
+    c.fill_slot.ensures.any_moment
 
 pub returns-in_default-open_slot-clause-any_moment : goal.returns-in_default-open_slot-clause-any_moment
 returns-in_default-open_slot-clause-any_moment g c image told pending =
-    while_opening g.D.Disk.clock g.D.Disk.left_since g.D.Disk.may_leave g.D.Disk.seen c.args.tag _ image c.args.disk.now told c.sectors.ensures.told c.requires.none
-    (subst (λ n. 2048 ≤ n) (sym c.sectors.ensures.count) c.requires.enough) (subst (λ n. n ≤ 1000000) (sym c.sectors.ensures.count) c.requires.few) _ c.seal_fits.ensures c.new_seal-seal.ensures
-    c.take_slot.new.disk (c.take_slot.ensures.any_moment image told pending) c.in_ok-take_slot.ensures.taken c.in_ok-take_slot.ensures.durable
-    c.fill_slot.new.disk c.open_slot.new.disk c.fill_slot.ensures.any_moment c.in-Ok.ensures.filled c.in-Ok.ensures.durable c.open_slot.ensures.any_moment
+    while_opening c.args.tag _ image _ told c.sectors.ensures.told c.requires.none
+    (subst (λ n. 2048 ≤ n) (sym c.sectors.ensures.count) c.requires.enough)
+    (subst (λ n. n ≤ 1000000) (sym c.sectors.ensures.count) c.requires.few) _ c.seal_fits.ensures c.new_seal-seal.ensures
+    (c.take_slot.ensures.any_moment image told pending) c.in_ok-take_slot.ensures.taken c.in_ok-take_slot.ensures.durable
+    c.fill_slot.ensures.any_moment c.in-Ok.ensures.filled c.in-Ok.ensures.durable c.open_slot.ensures.any_moment
 
 pub returns-clause-sealed : goal.returns-clause-sealed
 returns-clause-sealed g c =
@@ -28,7 +44,8 @@ returns-clause-sealed g c =
 
 pub returns-clause-any_moment : goal.returns-clause-any_moment
 returns-clause-any_moment g c image told pending =
-    while_opening g.D.Disk.clock g.D.Disk.left_since g.D.Disk.may_leave g.D.Disk.seen c.args.tag _ image c.args.disk.now told c.sectors.ensures.told c.requires.none
-    (subst (λ n. 2048 ≤ n) (sym c.sectors.ensures.count) c.requires.enough) (subst (λ n. n ≤ 1000000) (sym c.sectors.ensures.count) c.requires.few) _ c.seal_fits.ensures c.new_seal-seal.ensures
-    c.take_slot.new.disk (c.take_slot.ensures.any_moment image told pending) c.in_ok-take_slot.ensures.taken c.in_ok-take_slot.ensures.durable
-    c.fill_slot.new.disk c.open_slot.new.disk c.fill_slot.ensures.any_moment c.in-Ok.ensures.filled c.in-Ok.ensures.durable c.open_slot.ensures.any_moment
+    while_opening c.args.tag _ image _ told c.sectors.ensures.told c.requires.none
+    (subst (λ n. 2048 ≤ n) (sym c.sectors.ensures.count) c.requires.enough)
+    (subst (λ n. n ≤ 1000000) (sym c.sectors.ensures.count) c.requires.few) _ c.seal_fits.ensures c.new_seal-seal.ensures
+    (c.take_slot.ensures.any_moment image told pending) c.in_ok-take_slot.ensures.taken c.in_ok-take_slot.ensures.durable
+    c.fill_slot.ensures.any_moment c.in-Ok.ensures.filled c.in-Ok.ensures.durable c.open_slot.ensures.any_moment

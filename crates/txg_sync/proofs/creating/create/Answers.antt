@@ -9,9 +9,12 @@ use Rattle.txg_sync.proofs.creating.create.Goals as goal
 
 pub returns-clause-sound : goal.returns-clause-sound
 returns-clause-sound g c =
-    subst IsSound (sym (c.in-Ok.ensures ∙ ap (new_held c.args.tag) c.sectors.ensures.count)) (new_is_sound c.args.tag (g.D.Disk.sectors_of c.args.disk.now) c.requires.enough c.requires.few)
+    subst IsSound (sym (c.in-Ok.ensures ∙ ap (new_held c.args.tag) c.sectors.ensures.count))
+    (new_is_sound c.args.tag (g.D.Disk.state c.args.disk.now).sectors c.requires.enough c.requires.few)
 
 pub returns-clause-created : goal.returns-clause-created
 returns-clause-created g c =
-    creates_of c.args.tag (g.D.Disk.sectors_of c.args.disk.now) c.in-Ok.pool _ _ (c.in-Ok.ensures ∙ ap (new_held c.args.tag) c.sectors.ensures.count)
-    (subst (λ n. TellsImage n (g.D.Disk.seen c.args.disk.now)) c.sectors.ensures.count c.sectors.ensures.told) c.requires.enough c.requires.few c.in_default-sealed.ensures.sealed
+    creates_of c.args.tag (g.D.Disk.state c.args.disk.now).sectors c.in-Ok.pool _ _
+    (c.in-Ok.ensures ∙ ap (new_held c.args.tag) c.sectors.ensures.count)
+    (subst (λ n. TellsImage n (g.D.Disk.state c.args.disk.now).seen) c.sectors.ensures.count c.sectors.ensures.told) c.requires.enough
+    c.requires.few c.in_default-sealed.ensures.sealed

@@ -10,40 +10,49 @@ use Rattle.txg_sync.proofs.group.fill_group.Goals as goal
 
 pub returns-in_err-take_slot-clause-any_moment : goal.returns-in_err-take_slot-clause-any_moment
 returns-in_err-take_slot-clause-any_moment g c image told pending =
-    let sectors : ℕ = g.D.Disk.sectors_of c.args.disk.now in
-    let tells = subst (λ n. TellsImage n (g.D.Disk.seen c.args.disk.now)) c.sectors-sectors.ensures.count c.sectors-sectors.ensures.told in
+    let sectors : ℕ = (g.D.Disk.state c.args.disk.now).sectors in
+    let tells = subst (λ n. TellsImage n (g.D.Disk.state c.args.disk.now).seen) c.sectors-sectors.ensures.count
+    c.sectors-sectors.ensures.told in
     let behind = group_behind sectors c.args.contents.now c.args.parts.now c.requires.behind c.requires.places in
     let within = group_within sectors c.args.contents.now c.requires.within in
-    group_taking sectors c.requires.enough c.args.seal.now (map stored_of c.args.contents.now) c.args.parts.now behind within g.D.Disk.clock g.D.Disk.left_since g.D.Disk.may_leave g.D.Disk.seen image c.args.disk.now told tells c.requires.follows
-    c.take_slot.new.disk (c.take_slot.ensures.any_moment image told pending)
+    group_taking sectors c.requires.enough c.args.seal.now (map stored_of c.args.contents.now) c.args.parts.now behind within image _ told
+    tells c.requires.follows (c.take_slot.ensures.any_moment image told pending)
 
 pub returns-in_default-clause-any_moment : goal.returns-in_default-clause-any_moment
 returns-in_default-clause-any_moment g c image told pending =
-    let sectors : ℕ = g.D.Disk.sectors_of c.args.disk.now in
-    let tells = subst (λ n. TellsImage n (g.D.Disk.seen c.args.disk.now)) c.sectors-sectors.ensures.count c.sectors-sectors.ensures.told in
+    let sectors : ℕ = (g.D.Disk.state c.args.disk.now).sectors in
+    let tells = subst (λ n. TellsImage n (g.D.Disk.state c.args.disk.now).seen) c.sectors-sectors.ensures.count
+    c.sectors-sectors.ensures.told in
     let behind = group_behind sectors c.args.contents.now c.args.parts.now c.requires.behind c.requires.places in
     let within = group_within sectors c.args.contents.now c.requires.within in
-    group_storing sectors c.requires.enough c.args.seal.now (map stored_of c.args.contents.now) c.args.parts.now behind within g.D.Disk.clock g.D.Disk.left_since g.D.Disk.may_leave g.D.Disk.seen image c.args.disk.now told tells c.requires.follows
-    c.take_slot.new.disk (c.take_slot.ensures.any_moment image told pending) c.in_ok-take_slot.ensures.taken c.in_ok-take_slot.ensures.durable c.store_group.new.disk c.store_group.ensures.any_moment
+    group_storing sectors c.requires.enough c.args.seal.now (map stored_of c.args.contents.now) c.args.parts.now behind within image _ told
+    tells c.requires.follows (c.take_slot.ensures.any_moment image told pending) c.in_ok-take_slot.ensures.taken
+    c.in_ok-take_slot.ensures.durable c.store_group.ensures.any_moment
 
 pub returns-in_default-fill_slot-clause-any_moment : goal.returns-in_default-fill_slot-clause-any_moment
 returns-in_default-fill_slot-clause-any_moment g c image told pending =
-    let sectors : ℕ = g.D.Disk.sectors_of c.args.disk.now in
-    let tells = subst (λ n. TellsImage n (g.D.Disk.seen c.args.disk.now)) c.sectors-sectors.ensures.count c.sectors-sectors.ensures.told in
+    let sectors : ℕ = (g.D.Disk.state c.args.disk.now).sectors in
+    let tells = subst (λ n. TellsImage n (g.D.Disk.state c.args.disk.now).seen) c.sectors-sectors.ensures.count
+    c.sectors-sectors.ensures.told in
     let behind = group_behind sectors c.args.contents.now c.args.parts.now c.requires.behind c.requires.places in
     let within = group_within sectors c.args.contents.now c.requires.within in
     let rooted = rooted_is c.args.seal.now c.with_pointers-sealed.result c.args.parts.now c.store_group.new.pointers _ c.with_pointers-sealed.ensures c.in-Ok.ensures.roots c.requires.chains refl in
-    let P = ChainLeaves (group_places (map stored_of c.args.contents.now) c.args.parts.now) (g.D.Disk.may_leave c.take_slot.new.disk) in
-    group_filling sectors c.requires.enough c.args.seal.now (map stored_of c.args.contents.now) c.args.parts.now behind within g.D.Disk.clock g.D.Disk.left_since g.D.Disk.may_leave g.D.Disk.seen image c.args.disk.now told tells c.requires.follows
-    c.take_slot.new.disk (c.take_slot.ensures.any_moment image told pending) c.in_ok-take_slot.ensures.taken c.in_ok-take_slot.ensures.durable c.store_group.new.disk c.store_group.ensures.any_moment
-    (at_end g.D.Disk.clock g.D.Disk.left_since c.take_slot.new.disk c.store_group.new.disk P (g.D.Disk.may_leave c.store_group.new.disk) c.store_group.ensures.any_moment c.crash_laws-2.ensures.counted)
-    c.with_pointers-sealed.result rooted c.seal_fits.ensures c.fill_slot.new.disk c.fill_slot.ensures.any_moment
+    let P = ChainLeaves (group_places (map stored_of c.args.contents.now) c.args.parts.now)
+    (g.D.Disk.state c.take_slot.new.disk).may_leave in
+    group_filling sectors c.requires.enough c.args.seal.now (map stored_of c.args.contents.now) c.args.parts.now behind within image _ told
+    tells c.requires.follows (c.take_slot.ensures.any_moment image told pending) c.in_ok-take_slot.ensures.taken
+    c.in_ok-take_slot.ensures.durable c.store_group.ensures.any_moment
+    (at_end c.store_group.ensures.any_moment c.crash_laws-2.ensures.here)
+    c.with_pointers-sealed.result rooted c.seal_fits.ensures c.fill_slot.ensures.any_moment
 
 pub returns-clause-filled : goal.returns-clause-filled
 returns-clause-filled g c =
-    let sectors : ℕ = g.D.Disk.sectors_of c.args.disk.now in
-    let tells = subst (λ n. TellsImage n (g.D.Disk.seen c.args.disk.now)) c.sectors-sectors.ensures.count c.sectors-sectors.ensures.told in
-    let whole = subst (λ n. TellsImage n (g.D.Disk.seen c.store_group.new.disk)) (c.sectors-stored.ensures.count ∙ c.store_group.ensures.sectors ∙ c.take_slot.ensures.sectors) c.sectors-stored.ensures.told in
+    let sectors : ℕ = (g.D.Disk.state c.args.disk.now).sectors in
+    let tells = subst (λ n. TellsImage n (g.D.Disk.state c.args.disk.now).seen) c.sectors-sectors.ensures.count
+    c.sectors-sectors.ensures.told in
+    let whole = subst (λ n. TellsImage n (g.D.Disk.state c.store_group.new.disk).seen)
+    (c.sectors-stored.ensures.count ∙ c.store_group.ensures.accounts.keeps.sectors ∙ c.take_slot.ensures.accounts.keeps.sectors)
+    c.sectors-stored.ensures.told in
     let behind = group_behind sectors c.args.contents.now c.args.parts.now c.requires.behind c.requires.places in
     let within = group_within sectors c.args.contents.now c.requires.within in
     let rooted = rooted_is c.args.seal.now c.with_pointers-sealed.result c.args.parts.now c.store_group.new.pointers _ c.with_pointers-sealed.ensures c.in-Ok.ensures.roots c.requires.chains refl in
@@ -52,13 +61,16 @@ returns-clause-filled g c =
 
 pub returns-clause-any_moment : goal.returns-clause-any_moment
 returns-clause-any_moment g c image told pending =
-    let sectors : ℕ = g.D.Disk.sectors_of c.args.disk.now in
-    let tells = subst (λ n. TellsImage n (g.D.Disk.seen c.args.disk.now)) c.sectors-sectors.ensures.count c.sectors-sectors.ensures.told in
+    let sectors : ℕ = (g.D.Disk.state c.args.disk.now).sectors in
+    let tells = subst (λ n. TellsImage n (g.D.Disk.state c.args.disk.now).seen) c.sectors-sectors.ensures.count
+    c.sectors-sectors.ensures.told in
     let behind = group_behind sectors c.args.contents.now c.args.parts.now c.requires.behind c.requires.places in
     let within = group_within sectors c.args.contents.now c.requires.within in
     let rooted = rooted_is c.args.seal.now c.with_pointers-sealed.result c.args.parts.now c.store_group.new.pointers _ c.with_pointers-sealed.ensures c.in-Ok.ensures.roots c.requires.chains refl in
-    let P = ChainLeaves (group_places (map stored_of c.args.contents.now) c.args.parts.now) (g.D.Disk.may_leave c.take_slot.new.disk) in
-    group_filling sectors c.requires.enough c.args.seal.now (map stored_of c.args.contents.now) c.args.parts.now behind within g.D.Disk.clock g.D.Disk.left_since g.D.Disk.may_leave g.D.Disk.seen image c.args.disk.now told tells c.requires.follows
-    c.take_slot.new.disk (c.take_slot.ensures.any_moment image told pending) c.in_ok-take_slot.ensures.taken c.in_ok-take_slot.ensures.durable c.store_group.new.disk c.store_group.ensures.any_moment
-    (at_end g.D.Disk.clock g.D.Disk.left_since c.take_slot.new.disk c.store_group.new.disk P (g.D.Disk.may_leave c.store_group.new.disk) c.store_group.ensures.any_moment c.crash_laws-2.ensures.counted)
-    c.with_pointers-sealed.result rooted c.seal_fits.ensures c.fill_slot.new.disk c.fill_slot.ensures.any_moment
+    let P = ChainLeaves (group_places (map stored_of c.args.contents.now) c.args.parts.now)
+    (g.D.Disk.state c.take_slot.new.disk).may_leave in
+    group_filling sectors c.requires.enough c.args.seal.now (map stored_of c.args.contents.now) c.args.parts.now behind within image _ told
+    tells c.requires.follows (c.take_slot.ensures.any_moment image told pending) c.in_ok-take_slot.ensures.taken
+    c.in_ok-take_slot.ensures.durable c.store_group.ensures.any_moment
+    (at_end c.store_group.ensures.any_moment c.crash_laws-2.ensures.here)
+    c.with_pointers-sealed.result rooted c.seal_fits.ensures c.fill_slot.ensures.any_moment

@@ -7,26 +7,31 @@ use Rattle.txg_sync.proofs.group.seal_group.Goals as goal
 
 pub returns-in_err-fill_group-clause-any_moment : goal.returns-in_err-fill_group-clause-any_moment
 returns-in_err-fill_group-clause-any_moment g c image told pending =
-    let sectors : ℕ = g.D.Disk.sectors_of c.args.disk.now in
-    let tells = subst (λ n. TellsImage n (g.D.Disk.seen c.args.disk.now)) c.sectors-sectors.ensures.count c.sectors-sectors.ensures.told in
+    let sectors : ℕ = (g.D.Disk.state c.args.disk.now).sectors in
+    let tells = subst (λ n. TellsImage n (g.D.Disk.state c.args.disk.now).seen) c.sectors-sectors.ensures.count
+    c.sectors-sectors.ensures.told in
     let behind = group_behind sectors c.args.contents.now c.args.parts.now c.requires.behind c.requires.places in
     let within = group_within sectors c.args.contents.now c.requires.within in
-    group_unsealed sectors c.requires.enough c.args.seal.now (map stored_of c.args.contents.now) c.args.parts.now behind within g.D.Disk.clock g.D.Disk.left_since g.D.Disk.may_leave g.D.Disk.seen image c.args.disk.now told tells c.requires.follows
-    c.fill_group.new.disk (c.fill_group.ensures.any_moment image told pending)
+    group_unsealed sectors c.requires.enough c.args.seal.now (map stored_of c.args.contents.now) c.args.parts.now behind within image _ told
+    tells c.requires.follows (c.fill_group.ensures.any_moment image told pending)
 
 pub returns-in_default-clause-any_moment : goal.returns-in_default-clause-any_moment
 returns-in_default-clause-any_moment g c image told pending =
-    let sectors : ℕ = g.D.Disk.sectors_of c.args.disk.now in
-    let tells = subst (λ n. TellsImage n (g.D.Disk.seen c.args.disk.now)) c.sectors-sectors.ensures.count c.sectors-sectors.ensures.told in
+    let sectors : ℕ = (g.D.Disk.state c.args.disk.now).sectors in
+    let tells = subst (λ n. TellsImage n (g.D.Disk.state c.args.disk.now).seen) c.sectors-sectors.ensures.count
+    c.sectors-sectors.ensures.told in
     let behind = group_behind sectors c.args.contents.now c.args.parts.now c.requires.behind c.requires.places in
     let within = group_within sectors c.args.contents.now c.requires.within in
-    group_opening sectors c.requires.enough c.args.seal.now (map stored_of c.args.contents.now) c.args.parts.now behind within g.D.Disk.clock g.D.Disk.left_since g.D.Disk.may_leave g.D.Disk.seen image c.args.disk.now told tells c.requires.follows
-    c.requires.version c.fill_group.new.disk c.open_slot.new.disk (c.fill_group.ensures.any_moment image told pending) c.in_ok-fill_group.ensures.filled c.in_ok-fill_group.ensures.durable c.open_slot.ensures.any_moment
+    group_opening sectors c.requires.enough c.args.seal.now (map stored_of c.args.contents.now) c.args.parts.now behind within image _ told
+    tells c.requires.follows
+    c.requires.version (c.fill_group.ensures.any_moment image told pending) c.in_ok-fill_group.ensures.filled
+    c.in_ok-fill_group.ensures.durable c.open_slot.ensures.any_moment
 
 pub returns-clause-sealed : goal.returns-clause-sealed
 returns-clause-sealed g c =
-    let sectors : ℕ = g.D.Disk.sectors_of c.args.disk.now in
-    let tells = subst (λ n. TellsImage n (g.D.Disk.seen c.args.disk.now)) c.sectors-sectors.ensures.count c.sectors-sectors.ensures.told in
+    let sectors : ℕ = (g.D.Disk.state c.args.disk.now).sectors in
+    let tells = subst (λ n. TellsImage n (g.D.Disk.state c.args.disk.now).seen) c.sectors-sectors.ensures.count
+    c.sectors-sectors.ensures.told in
     let behind = group_behind sectors c.args.contents.now c.args.parts.now c.requires.behind c.requires.places in
     let within = group_within sectors c.args.contents.now c.requires.within in
     seals_of sectors c.requires.enough c.args.seal.now (map stored_of c.args.contents.now) c.args.parts.now behind within c.requires.version
@@ -34,9 +39,12 @@ returns-clause-sealed g c =
 
 pub returns-clause-any_moment : goal.returns-clause-any_moment
 returns-clause-any_moment g c image told pending =
-    let sectors : ℕ = g.D.Disk.sectors_of c.args.disk.now in
-    let tells = subst (λ n. TellsImage n (g.D.Disk.seen c.args.disk.now)) c.sectors-sectors.ensures.count c.sectors-sectors.ensures.told in
+    let sectors : ℕ = (g.D.Disk.state c.args.disk.now).sectors in
+    let tells = subst (λ n. TellsImage n (g.D.Disk.state c.args.disk.now).seen) c.sectors-sectors.ensures.count
+    c.sectors-sectors.ensures.told in
     let behind = group_behind sectors c.args.contents.now c.args.parts.now c.requires.behind c.requires.places in
     let within = group_within sectors c.args.contents.now c.requires.within in
-    group_opening sectors c.requires.enough c.args.seal.now (map stored_of c.args.contents.now) c.args.parts.now behind within g.D.Disk.clock g.D.Disk.left_since g.D.Disk.may_leave g.D.Disk.seen image c.args.disk.now told tells c.requires.follows
-    c.requires.version c.fill_group.new.disk c.open_slot.new.disk (c.fill_group.ensures.any_moment image told pending) c.in_ok-fill_group.ensures.filled c.in_ok-fill_group.ensures.durable c.open_slot.ensures.any_moment
+    group_opening sectors c.requires.enough c.args.seal.now (map stored_of c.args.contents.now) c.args.parts.now behind within image _ told
+    tells c.requires.follows
+    c.requires.version (c.fill_group.ensures.any_moment image told pending) c.in_ok-fill_group.ensures.filled
+    c.in_ok-fill_group.ensures.durable c.open_slot.ensures.any_moment

@@ -1,7 +1,7 @@
 use Rattle.std.proofs.Common.{◌≡◌, drop, map}
 use Rattle.grant_book.specs.Sectors.{marked}
 use Rattle.pool_model.specs.Plain.{stored_of}
-use Rattle.txg_sync.specs.Writing.{block_places}
+use Rattle.table_state.specs.Closing.{block_places}
 use Rattle.txg_sync.proofs.places.mark_blocks.Given as goal
 
 abbrev pub invariant-contents : goal.invariant-contents

@@ -1,5 +1,5 @@
 use Rattle.std.proofs.Common.{◌≡◌, ◌≤◌, map, take}
-use Rattle.txg_sync.specs.Placing.{pages_of}
+use Rattle.table_state.specs.Closing.{pages_of}
 use Rattle.txg_sync.proofs.places.pages_within.Given as goal
 
 abbrev pub invariant-lists : goal.invariant-lists

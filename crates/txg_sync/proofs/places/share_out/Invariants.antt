@@ -1,6 +1,7 @@
 use Rattle.std.proofs.Common.{◌≡◌, ◌+◌, ◌++◌, length, map, drop}
 use Rattle.std.specs.Vec.Iter.{into_iter_items}
-use Rattle.txg_sync.specs.Placing.{pages_of, parts_of}
+use Rattle.table_state.specs.Closing.{pages_of}
+use Rattle.txg_sync.specs.Placing.{parts_of}
 use Rattle.txg_sync.proofs.places.share_out.Given as goal
 
 -- the chains that have places, and then those of the lists that are left, are the chains of all lists

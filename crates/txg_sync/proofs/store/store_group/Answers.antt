@@ -9,7 +9,7 @@ returns-in_err-write_blocks-clause-touched g c = blocks_touched (map stored_of c
 
 pub returns-in_err-write_blocks-clause-any_moment : goal.returns-in_err-write_blocks-clause-any_moment
 returns-in_err-write_blocks-clause-any_moment g c =
-    while_blocks (map stored_of c.args.contents.now) c.args.parts.now g.D.Disk.clock g.D.Disk.left_since g.D.Disk.may_leave c.args.disk.now c.write_blocks.new.disk c.write_blocks.ensures.any_moment
+    while_blocks (map stored_of c.args.contents.now) c.args.parts.now c.write_blocks.ensures.any_moment
 
 pub returns-clause-stored : goal.returns-clause-stored
 returns-clause-stored g c =
@@ -20,5 +20,5 @@ returns-clause-touched g c = all_touched (map stored_of c.args.contents.now) c.a
 
 pub returns-clause-any_moment : goal.returns-clause-any_moment
 returns-clause-any_moment g c =
-    while_chains (map stored_of c.args.contents.now) c.args.parts.now g.D.Disk.clock g.D.Disk.left_since g.D.Disk.may_leave c.args.disk.now c.write_blocks.new.disk c.write_blocks.ensures.any_moment
-    c.write_parts.new.disk c.crash_laws.ensures.counted c.write_parts.ensures.any_moment
+    while_chains (map stored_of c.args.contents.now) c.args.parts.now c.write_blocks.ensures.any_moment c.crash_laws.ensures.here
+    c.write_parts.ensures.any_moment

@@ -1,11 +1,11 @@
 -- Each block is one of the places, and stands there with those before it.
-use Rattle.std.proofs.Common.{◌∙◌, ℕ, List, map, ap, subst, arith}
+use Rattle.std.proofs.Common.{◌∙◌, ℕ, List, map, ap, subst}
 use Rattle.disk_model.specs.Images.{Holds}
 use Rattle.table_state.specs.Pools.{block_sector}
-use Rattle.disk_model.proofs.Moments.{goes_on}
+use Rattle.disk_model.proofs.Moments.{goes_on, keeps_on}
 use Rattle.page_tree.specs.Chains.{ChainLeaves}
 use Rattle.pool_model.specs.Plain.{stored_of}
-use Rattle.txg_sync.specs.Writing.{block_places}
+use Rattle.table_state.specs.Closing.{block_places}
 use Rattle.txg_sync.proofs.Storing.{stores_more, block_touched, block_torn, block_leaves}
 use Rattle.txg_sync.proofs.store.write_blocks.Goals as goal
 
@@ -15,21 +15,22 @@ returns-in_err-write-clause-touched g c =
 
 pub returns-in_err-write-clause-any_moment : goal.returns-in_err-write-clause-any_moment
 returns-in_err-write-clause-any_moment g c =
-    let P = ChainLeaves (block_places (map stored_of c.args.contents.now)) (g.D.Disk.may_leave c.args.disk.now) in
-    let leaves = block_leaves c.args.contents.now c.each.stored-index c.stored-item.result c.each-test.true c.stored-item.is (g.D.Disk.may_leave c.args.disk.now) (g.D.Disk.may_leave c.each.disk) c.each.invariant.4 in
-    goes_on g.D.Disk.clock g.D.Disk.left_since c.args.disk.now c.each.disk c.write.new.self P (g.D.Disk.may_leave c.write.new.self) c.each.invariant.3 c.write.ensures.time (λ c' left. leaves c' (c.write.ensures.crash c' left))
+    let P = ChainLeaves (block_places (map stored_of c.args.contents.now)) (g.D.Disk.state c.args.disk.now).may_leave in
+    let leaves = block_leaves c.args.contents.now c.each.stored-index c.stored-item.result c.each-test.true c.stored-item.is
+    (g.D.Disk.state c.args.disk.now).may_leave (g.D.Disk.state c.each.disk).may_leave c.each.invariant.4 in
+    goes_on c.each.invariant.3 c.write.ensures.time (λ c' left. leaves c' (c.write.ensures.crash c' left))
 
 pub each-preserved : goal.each-preserved
 each-preserved g c =
-    let P = ChainLeaves (block_places (map stored_of c.args.contents.now)) (g.D.Disk.may_leave c.args.disk.now) in
-    let leaves = block_leaves c.args.contents.now c.each.stored-index c.stored-item.result c.each-test.true c.stored-item.is (g.D.Disk.may_leave c.args.disk.now) (g.D.Disk.may_leave c.each.disk) c.each.invariant.4 in
+    let P = ChainLeaves (block_places (map stored_of c.args.contents.now)) (g.D.Disk.state c.args.disk.now).may_leave in
+    let leaves = block_leaves c.args.contents.now c.each.stored-index c.stored-item.result c.each-test.true c.stored-item.is
+    (g.D.Disk.state c.args.disk.now).may_leave (g.D.Disk.state c.each.disk).may_leave c.each.invariant.4 in
     let bytes = c.sector_of-sector.ensures ∙ ap block_sector c.as_slice.ensures in
-    let held = subst (λ (b : List ℕ). Holds (g.D.Disk.seen c.each.disk) (g.D.Disk.seen c.write.new.self) c.stored-item.result.place b) bytes c.in_ok-write.ensures.written in (
-      c.write.ensures.sectors ∙ c.each.invariant.0,
+    let held = subst (λ (b : List ℕ). Holds (g.D.Disk.state c.each.disk).seen (g.D.Disk.state c.write.new.self).seen
+    c.stored-item.result.place b) bytes c.in_ok-write.ensures.written in (
+      keeps_on c.each.invariant.0 c.write.ensures.accounts.keeps,
       stores_more c.args.contents.now c.each.stored-index c.stored-item.result c.each-test.true c.stored-item.is _ _ _ c.each.invariant.1 held,
       block_touched c.args.contents.now c.each.stored-index c.stored-item.result c.each-test.true c.stored-item.is _ _ _ c.each.invariant.2 held,
-      goes_on g.D.Disk.clock g.D.Disk.left_since c.args.disk.now c.each.disk c.write.new.self P (g.D.Disk.may_leave c.write.new.self) c.each.invariant.3 c.write.ensures.time (λ c' left. leaves c' (c.write.ensures.crash c' left)),
+      goes_on c.each.invariant.3 c.write.ensures.time (λ c' left. leaves c' (c.write.ensures.crash c' left)),
       λ c' left. leaves c' (c.write.ensures.crash c' left),
-      omega (arith, c.each.invariant.5, c.write.ensures.reads),
-      omega (arith, c.each.invariant.6, c.write.ensures.cause.later),
     )

@@ -1,35 +1,26 @@
 -- What was planned is what is sealed, and the image stands for it.
-use Rattle.std.proofs.Common.{◌≡◌, ◌∙◌, ◌≤◌, ◌<◌, ◌^◌, ℕ, List, Option, length, map, sym, ap, subst, arith}
+use Rattle.std.proofs.Common.{◌≡◌, ◌∙◌, ◌≤◌, ◌<◌, ◌^◌, ℕ, List, Option, length, refl, sym, ap, subst, arith, rules}
 use Rattle.std.specs.Prelude.{[], slice_index_or}
-use Rattle.std.specs.List.{AllByRecursion}
 use Rattle.disk_model.specs.Images.{Image, TellsImage}
-use Rattle.disk_model.specs.Crashes.{LeavesOnly}
 use Rattle.page_tree.specs.Chains.{AreOpen}
-use Rattle.uber_ring.specs.Ring.{slot_of}
 use Rattle.pool_model.specs.declared.closed.StoredBlock.{StoredBlock}
-use Rattle.ddt_entry.specs.Records.{Fits as ChangeFits}
-use Rattle.ddt_entry.specs.declared.entry.Entry.{Entry}
-use Rattle.ddt_entry.specs.declared.entry.Change.TheVariants as changes
-use Rattle.pool_model.specs.Plain.{stored_of}
-use Rattle.pool_model.specs.Table.{TableState}
 use Rattle.table_state.specs.Pools.{Held}
 use Rattle.table_state.specs.Sealed.{ChainPart, places_in}
-use Rattle.table_state.specs.SlotRecords.{FitsSlot}
-use Rattle.table_state.specs.declared.slot_record.SlotRecord.{SlotRecord}
-use Rattle.txg_sync.specs.Planning.{group_in, IsNext}
-use Rattle.txg_sync.specs.Syncing.{CanSyncOver}
-use Rattle.txg_sync.specs.Writing.{with_roots, MayBeSealed, Seals}
-use Rattle.txg_sync.proofs.Afterwards.{AreSpelt, sound_after}
-use Rattle.txg_sync.proofs.Syncs.{stored_at, pages_after, seal_version_is, open_on_disk, follows_newest, syncs_of, while_syncing}
+use Rattle.table_state.specs.Closing.{closed_of, CanSyncOver}
+use Rattle.txg_sync.specs.Planning.{IsNext}
+use Rattle.txg_sync.proofs.Afterwards.{sound_after}
+use Rattle.txg_sync.proofs.Syncs.{stored_at, pages_after, seal_version_is, open_on_disk, follows_newest, syncs_of, while_syncing, while_filling, may_be_as_planned, unsealed_as_planned, sealed_as_planned, spelt_by}
 use Rattle.txg_sync.proofs.syncing.write_plan.Goals as goal
 
 pub seal_group-sealed-requires-clause-follows : goal.seal_group-sealed-requires-clause-follows
 seal_group-sealed-requires-clause-follows g c κs outlives =
-    follows_newest c.args.pool.now (group_in c.args.closed.now) c.requires.sound c.args.planned.next c.args.planned.parts.items c.args.planned.seal c.requires.planned (g.D.Disk.seen c.args.disk.now) c.requires.over
+    follows_newest c.args.pool.now (closed_of c.args.closed.now) c.requires.sound c.args.planned.next c.args.planned.parts.items
+    c.args.planned.seal c.requires.planned (g.D.Disk.state c.args.disk.now).seen c.requires.over
 
 pub seal_group-sealed-requires-clause-version : goal.seal_group-sealed-requires-clause-version
 seal_group-sealed-requires-clause-version g c κs outlives =
-    seal_version_is c.args.pool.now (group_in c.args.closed.now) c.requires.sound c.args.planned.next c.args.planned.parts.items c.args.planned.seal c.requires.planned
+    seal_version_is c.args.pool.now (closed_of c.args.closed.now) c.requires.sound c.args.planned.next c.args.planned.parts.items
+    c.args.planned.seal c.requires.planned
 
 pub seal_group-sealed-requires-clause-behind : goal.seal_group-sealed-requires-clause-behind
 seal_group-sealed-requires-clause-behind g c κs outlives =
@@ -37,7 +28,8 @@ seal_group-sealed-requires-clause-behind g c κs outlives =
 
 pub seal_group-sealed-requires-clause-within : goal.seal_group-sealed-requires-clause-within
 seal_group-sealed-requires-clause-within g c κs outlives =
-    subst (λ (cs : List StoredBlock). (k : ℕ) (d : StoredBlock) → k < length cs → (slice_index_or cs k d).place < g.D.Disk.sectors_of c.args.disk.now) (sym c.as_slice-2.ensures)
+    subst (λ (cs : List StoredBlock). (k : ℕ) (d : StoredBlock) → k < length cs → (slice_index_or cs k d).place <
+    (g.D.Disk.state c.args.disk.now).sectors) (sym c.as_slice-2.ensures)
     (λ k d inside. omega (arith, c.requires.on_disk, stored_at (λ s. s.place < c.args.pool.now.sectors) c.args.closed.now.contents.items c.requires.range.on_disk k d inside))
 
 pub seal_group-sealed-requires-clause-lengths : goal.seal_group-sealed-requires-clause-lengths
@@ -46,75 +38,97 @@ seal_group-sealed-requires-clause-lengths g c κs outlives =
 
 pub seal_group-sealed-requires-clause-places : goal.seal_group-sealed-requires-clause-places
 seal_group-sealed-requires-clause-places g c κs outlives =
-    subst (λ (ps : List ChainPart). AreOpen (g.D.Disk.sectors_of c.args.disk.now) [] (places_in ps)) (sym c.as_slice-3.ensures.value)
-    (open_on_disk c.args.pool.now (group_in c.args.closed.now) c.requires.sound c.args.planned.next c.args.planned.parts.items c.args.planned.seal c.requires.planned (g.D.Disk.sectors_of c.args.disk.now) c.requires.on_disk)
+    subst (λ (ps : List ChainPart). AreOpen (g.D.Disk.state c.args.disk.now).sectors [] (places_in ps)) (sym c.as_slice-3.ensures.value)
+    (open_on_disk c.args.pool.now (closed_of c.args.closed.now) c.requires.sound c.args.planned.next c.args.planned.parts.items
+    c.args.planned.seal c.requires.planned (g.D.Disk.state c.args.disk.now).sectors c.requires.on_disk)
 
 pub returns-in-Err-clause-any_moment : goal.returns-in-Err-clause-any_moment
-returns-in-Err-clause-any_moment g c image before table told pending is =
-    let sectors : ℕ = g.D.Disk.sectors_of c.args.disk.now in
+returns-in-Err-clause-any_moment g c image s told pending over =
+    let sectors : ℕ = (g.D.Disk.state c.args.disk.now).sectors in
     let count : c.sectors-sectors.result ≡ sectors = c.sectors-sectors.ensures.count in
     let small : sectors < 2 ^ 64 = subst (λ n. n < 2 ^ 64) count c.sectors-sectors.type_inv in
-    let tells = subst (λ n. TellsImage n (g.D.Disk.seen c.args.disk.now)) count c.sectors-sectors.ensures.told in
-    let spelt : AreSpelt c.args.planned.next.slots c.args.planned.next.table = record {
-      slots_fit = subst (λ (s : List SlotRecord). AllByRecursion FitsSlot s) (c.as_slice.ensures ∙ ap (λ (h : Held). h.slots) c.next.view_is) c.slots_fit.ensures;
-      zap = subst (λ (t : TableState). AllByRecursion (λ (entry : Entry). ChangeFits (changes.Entry entry)) t.zap) (ap (λ (h : Held). h.table) c.next.view_is) c.table_fits.ensures.zap;
-      flush = subst (λ (t : TableState). AllByRecursion ChangeFits t.flush) (ap (λ (h : Held). h.table) c.next.view_is) c.table_fits.ensures.flush;
-      active = subst (λ (t : TableState). AllByRecursion ChangeFits t.active) (ap (λ (h : Held). h.table) c.next.view_is) c.table_fits.ensures.active;
-    } in
+    let tells = subst (λ n. TellsImage n (g.D.Disk.state c.args.disk.now).seen) count c.sectors-sectors.ensures.told in
+    let spelt = spelt_by c.args.planned.next c.as_slice.result.now c.next.inside.table
+    (c.as_slice.ensures ∙ ap (λ (h : Held). h.slots) c.next.view_is) (ap (λ (h : Held). h.table) c.next.view_is)
+    c.slots_fit.ensures c.table_fits.ensures.zap c.table_fits.ensures.flush c.table_fits.ensures.active in
     let is_image = subst (λ (o : Option Image). TellsImage sectors o) told tells in
-    let can = subst (λ (o : Option Image). CanSyncOver o c.args.pool.now (group_in c.args.closed.now)) told c.requires.over in
-    let run = subst (λ (ps : List ChainPart). LeavesOnly g.D.Disk.clock g.D.Disk.left_since c.args.disk.now c.seal_group-sealed.new.disk (MayBeSealed (slot_of c.args.planned.seal.group) (map stored_of c.args.closed.now.contents.items) ps (with_roots c.args.planned.seal ps) image)) c.as_slice-3.ensures.value
-    (subst (λ (cs : List StoredBlock). LeavesOnly g.D.Disk.clock g.D.Disk.left_since c.args.disk.now c.seal_group-sealed.new.disk (MayBeSealed (slot_of c.args.planned.seal.group) (map stored_of cs) c.as_slice-3.result.now (with_roots c.args.planned.seal c.as_slice-3.result.now) image)) c.as_slice-2.ensures
-    (c.seal_group-sealed.ensures.any_moment image told pending)) in
-    while_syncing c.args.pool.now (group_in c.args.closed.now) c.requires.sound c.args.planned.next c.args.planned.parts.items c.args.planned.seal c.requires.planned c.requires.range c.requires.last spelt
-    image (omega (arith, c.requires.on_disk, is_image.count)) (omega (arith, small, is_image.count)) can before table is g.D.Disk.clock g.D.Disk.left_since c.args.disk.now c.seal_group-sealed.new.disk run
+    let can = subst (λ (o : Option Image). CanSyncOver o c.args.pool.now (closed_of c.args.closed.now)) told c.requires.over in
+    let run = may_be_as_planned c.args.planned.seal c.args.closed.now.contents.items c.as_slice-2.result.now c.args.planned.parts.items
+    c.as_slice-3.result.now c.as_slice-2.ensures c.as_slice-3.ensures.value image
+    (c.seal_group-sealed.ensures.any_moment image told pending) in (
+      c.args.planned.next.pages,
+      pages_after c.args.pool.now (closed_of c.args.closed.now) c.args.planned.next c.args.planned.parts.items c.args.planned.seal
+          c.requires.planned,
+      tt,
+      while_syncing c.args.pool.now (closed_of c.args.closed.now) c.requires.sound c.args.planned.next c.args.planned.parts.items
+          c.args.planned.seal
+          c.requires.planned c.requires.range c.requires.last spelt image
+          (omega (arith, c.requires.on_disk, is_image.count)) (omega (arith, small, is_image.count)) can s over run,
+    )
+
+pub returns-in-Err-clause-before_the_gate : goal.returns-in-Err-clause-before_the_gate
+returns-in-Err-clause-before_the_gate g c image s told pending over fault =
+    let can = subst (λ (o : Option Image). CanSyncOver o c.args.pool.now (closed_of c.args.closed.now)) told c.requires.over in
+    while_filling c.args.pool.now (closed_of c.args.closed.now) c.requires.sound c.args.planned.next c.args.planned.parts.items
+    c.args.planned.seal
+    c.requires.planned image can s over
+    (unsealed_as_planned c.args.planned.seal c.args.closed.now.contents.items c.as_slice-2.result.now c.args.planned.parts.items
+    c.as_slice-3.result.now c.as_slice-2.ensures c.as_slice-3.ensures.value image
+    (c.seal_group-sealed.ensures.before_the_gate image told pending (search rules)))
 
 pub returns-clause-synced : goal.returns-clause-synced
 returns-clause-synced g c =
-    let sectors : ℕ = g.D.Disk.sectors_of c.args.disk.now in
+    let sectors : ℕ = (g.D.Disk.state c.args.disk.now).sectors in
     let count : c.sectors-sectors.result ≡ sectors = c.sectors-sectors.ensures.count in
     let small : sectors < 2 ^ 64 = subst (λ n. n < 2 ^ 64) count c.sectors-sectors.type_inv in
-    let tells = subst (λ n. TellsImage n (g.D.Disk.seen c.args.disk.now)) count c.sectors-sectors.ensures.told in
-    let spelt : AreSpelt c.args.planned.next.slots c.args.planned.next.table = record {
-      slots_fit = subst (λ (s : List SlotRecord). AllByRecursion FitsSlot s) (c.as_slice.ensures ∙ ap (λ (h : Held). h.slots) c.next.view_is) c.slots_fit.ensures;
-      zap = subst (λ (t : TableState). AllByRecursion (λ (entry : Entry). ChangeFits (changes.Entry entry)) t.zap) (ap (λ (h : Held). h.table) c.next.view_is) c.table_fits.ensures.zap;
-      flush = subst (λ (t : TableState). AllByRecursion ChangeFits t.flush) (ap (λ (h : Held). h.table) c.next.view_is) c.table_fits.ensures.flush;
-      active = subst (λ (t : TableState). AllByRecursion ChangeFits t.active) (ap (λ (h : Held). h.table) c.next.view_is) c.table_fits.ensures.active;
-    } in
-    let seals = subst (λ (ps : List ChainPart). Seals (slot_of c.args.planned.seal.group) (map stored_of c.args.closed.now.contents.items) ps (with_roots c.args.planned.seal ps) (g.D.Disk.seen c.args.disk.now) (g.D.Disk.seen c.seal_group-sealed.new.disk)) c.as_slice-3.ensures.value
-    (subst (λ (cs : List StoredBlock). Seals (slot_of c.args.planned.seal.group) (map stored_of cs) c.as_slice-3.result.now (with_roots c.args.planned.seal c.as_slice-3.result.now) (g.D.Disk.seen c.args.disk.now) (g.D.Disk.seen c.seal_group-sealed.new.disk)) c.as_slice-2.ensures
-    c.in_default.ensures.sealed) in
-    syncs_of c.args.pool.now (group_in c.args.closed.now) c.requires.sound c.args.planned.next c.args.planned.parts.items c.args.planned.seal c.requires.planned c.requires.range c.requires.last spelt
-    sectors (g.D.Disk.seen c.args.disk.now) (g.D.Disk.seen c.seal_group-sealed.new.disk) tells c.requires.on_disk (omega (arith, small)) c.requires.over seals
+    let tells = subst (λ n. TellsImage n (g.D.Disk.state c.args.disk.now).seen) count c.sectors-sectors.ensures.told in
+    let spelt = spelt_by c.args.planned.next c.as_slice.result.now c.next.inside.table
+    (c.as_slice.ensures ∙ ap (λ (h : Held). h.slots) c.next.view_is) (ap (λ (h : Held). h.table) c.next.view_is)
+    c.slots_fit.ensures c.table_fits.ensures.zap c.table_fits.ensures.flush c.table_fits.ensures.active in
+    let seals = sealed_as_planned c.args.planned.seal c.args.closed.now.contents.items c.as_slice-2.result.now c.args.planned.parts.items
+    c.as_slice-3.result.now c.as_slice-2.ensures c.as_slice-3.ensures.value
+    (g.D.Disk.state c.args.disk.now).seen (g.D.Disk.state c.seal_group-sealed.new.disk).seen c.in_default.ensures.sealed in
+    syncs_of c.args.pool.now (closed_of c.args.closed.now) c.requires.sound c.args.planned.next c.args.planned.parts.items
+    c.args.planned.seal
+    c.requires.planned c.requires.range c.requires.last spelt
+    sectors (g.D.Disk.state c.args.disk.now).seen (g.D.Disk.state c.seal_group-sealed.new.disk).seen tells c.requires.on_disk
+    (omega (arith, small)) c.requires.over seals
 
 pub returns-clause-made : goal.returns-clause-made
 returns-clause-made g c =
-    subst (λ (pages : List ℕ). IsNext c.args.pool.now (group_in c.args.closed.now) pages c.args.planned.next) (sym c.requires.planned.is_next.pages_are) c.requires.planned.is_next
+    subst (λ (pages : List ℕ). IsNext c.args.pool.now (closed_of c.args.closed.now) pages c.args.planned.next)
+    (sym c.requires.planned.is_next.pages_are) c.requires.planned.is_next
 
 pub returns-clause-pages : goal.returns-clause-pages
 returns-clause-pages g c =
-    pages_after c.args.pool.now (group_in c.args.closed.now) c.args.planned.next c.args.planned.parts.items c.args.planned.seal c.requires.planned
+    pages_after c.args.pool.now (closed_of c.args.closed.now) c.args.planned.next c.args.planned.parts.items c.args.planned.seal
+    c.requires.planned
 
 pub returns-clause-next : goal.returns-clause-next
 returns-clause-next g c =
-    sound_after c.args.pool.now (group_in c.args.closed.now) c.requires.sound c.requires.range c.requires.last c.args.planned.next c.args.planned.parts.items c.args.planned.seal c.requires.planned
+    sound_after c.args.pool.now (closed_of c.args.closed.now) c.requires.sound c.requires.range c.requires.last c.args.planned.next
+    c.args.planned.parts.items c.args.planned.seal c.requires.planned
 
 pub returns-clause-any_moment : goal.returns-clause-any_moment
-returns-clause-any_moment g c image before table told pending is =
-    let sectors : ℕ = g.D.Disk.sectors_of c.args.disk.now in
+returns-clause-any_moment g c image s told pending over =
+    let sectors : ℕ = (g.D.Disk.state c.args.disk.now).sectors in
     let count : c.sectors-sectors.result ≡ sectors = c.sectors-sectors.ensures.count in
     let small : sectors < 2 ^ 64 = subst (λ n. n < 2 ^ 64) count c.sectors-sectors.type_inv in
-    let tells = subst (λ n. TellsImage n (g.D.Disk.seen c.args.disk.now)) count c.sectors-sectors.ensures.told in
-    let spelt : AreSpelt c.args.planned.next.slots c.args.planned.next.table = record {
-      slots_fit = subst (λ (s : List SlotRecord). AllByRecursion FitsSlot s) (c.as_slice.ensures ∙ ap (λ (h : Held). h.slots) c.next.view_is) c.slots_fit.ensures;
-      zap = subst (λ (t : TableState). AllByRecursion (λ (entry : Entry). ChangeFits (changes.Entry entry)) t.zap) (ap (λ (h : Held). h.table) c.next.view_is) c.table_fits.ensures.zap;
-      flush = subst (λ (t : TableState). AllByRecursion ChangeFits t.flush) (ap (λ (h : Held). h.table) c.next.view_is) c.table_fits.ensures.flush;
-      active = subst (λ (t : TableState). AllByRecursion ChangeFits t.active) (ap (λ (h : Held). h.table) c.next.view_is) c.table_fits.ensures.active;
-    } in
+    let tells = subst (λ n. TellsImage n (g.D.Disk.state c.args.disk.now).seen) count c.sectors-sectors.ensures.told in
+    let spelt = spelt_by c.args.planned.next c.as_slice.result.now c.next.inside.table
+    (c.as_slice.ensures ∙ ap (λ (h : Held). h.slots) c.next.view_is) (ap (λ (h : Held). h.table) c.next.view_is)
+    c.slots_fit.ensures c.table_fits.ensures.zap c.table_fits.ensures.flush c.table_fits.ensures.active in
     let is_image = subst (λ (o : Option Image). TellsImage sectors o) told tells in
-    let can = subst (λ (o : Option Image). CanSyncOver o c.args.pool.now (group_in c.args.closed.now)) told c.requires.over in
-    let run = subst (λ (ps : List ChainPart). LeavesOnly g.D.Disk.clock g.D.Disk.left_since c.args.disk.now c.seal_group-sealed.new.disk (MayBeSealed (slot_of c.args.planned.seal.group) (map stored_of c.args.closed.now.contents.items) ps (with_roots c.args.planned.seal ps) image)) c.as_slice-3.ensures.value
-    (subst (λ (cs : List StoredBlock). LeavesOnly g.D.Disk.clock g.D.Disk.left_since c.args.disk.now c.seal_group-sealed.new.disk (MayBeSealed (slot_of c.args.planned.seal.group) (map stored_of cs) c.as_slice-3.result.now (with_roots c.args.planned.seal c.as_slice-3.result.now) image)) c.as_slice-2.ensures
-    (c.seal_group-sealed.ensures.any_moment image told pending)) in
-    while_syncing c.args.pool.now (group_in c.args.closed.now) c.requires.sound c.args.planned.next c.args.planned.parts.items c.args.planned.seal c.requires.planned c.requires.range c.requires.last spelt
-    image (omega (arith, c.requires.on_disk, is_image.count)) (omega (arith, small, is_image.count)) can before table is g.D.Disk.clock g.D.Disk.left_since c.args.disk.now c.seal_group-sealed.new.disk run
+    let can = subst (λ (o : Option Image). CanSyncOver o c.args.pool.now (closed_of c.args.closed.now)) told c.requires.over in
+    let run = may_be_as_planned c.args.planned.seal c.args.closed.now.contents.items c.as_slice-2.result.now c.args.planned.parts.items
+    c.as_slice-3.result.now c.as_slice-2.ensures c.as_slice-3.ensures.value image
+    (c.seal_group-sealed.ensures.any_moment image told pending) in (
+      c.args.planned.next.pages,
+      pages_after c.args.pool.now (closed_of c.args.closed.now) c.args.planned.next c.args.planned.parts.items c.args.planned.seal
+          c.requires.planned,
+      refl,
+      while_syncing c.args.pool.now (closed_of c.args.closed.now) c.requires.sound c.args.planned.next c.args.planned.parts.items
+          c.args.planned.seal
+          c.requires.planned c.requires.range c.requires.last spelt image
+          (omega (arith, c.requires.on_disk, is_image.count)) (omega (arith, small, is_image.count)) can s over run,
+    )

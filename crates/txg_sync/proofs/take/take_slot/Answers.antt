@@ -9,10 +9,12 @@ returns-clause-taken g c = takes_of c.args.slot _ c.in-Ok-answer.was_open _ _ _ 
 
 pub returns-clause-any_moment : goal.returns-clause-any_moment
 returns-clause-any_moment g c image told pending =
-    while_taken g.D.Disk.clock g.D.Disk.left_since g.D.Disk.may_leave g.D.Disk.seen c.args.slot _ image (c.crash_laws.ensures.images image pending.0) c.args.disk.now c.meter.new.self c.retire.new.self c.close_slot.new.disk c.in-Ok-answer.was_open
-    told pending c.crash_laws.ensures.now c.meter.ensures.contents c.meter.ensures.crash c.meter.ensures.time c.in-Ok-answer.ensures.gate c.retire.ensures.crash c.retire.ensures.time c.close_slot.ensures.any_moment
+    while_taken c.args.slot _ image (c.crash_laws.ensures.here.leaves_images image pending.0) c.in-Ok-answer.was_open
+    told pending c.crash_laws.ensures.here c.meter.ensures.contents c.meter.ensures.crash c.meter.ensures.time c.in-Ok-answer.ensures.gate
+    c.retire.ensures.crash c.retire.ensures.time c.close_slot.ensures.any_moment
 
 pub returns-in_default-close_slot-clause-any_moment : goal.returns-in_default-close_slot-clause-any_moment
 returns-in_default-close_slot-clause-any_moment g c image told pending =
-    while_taken g.D.Disk.clock g.D.Disk.left_since g.D.Disk.may_leave g.D.Disk.seen c.args.slot _ image (c.crash_laws.ensures.images image pending.0) c.args.disk.now c.meter.new.self c.retire.new.self c.close_slot.new.disk c.in-Ok-answer.was_open
-    told pending c.crash_laws.ensures.now c.meter.ensures.contents c.meter.ensures.crash c.meter.ensures.time c.in-Ok-answer.ensures.gate c.retire.ensures.crash c.retire.ensures.time c.close_slot.ensures.any_moment
+    while_taken c.args.slot _ image (c.crash_laws.ensures.here.leaves_images image pending.0) c.in-Ok-answer.was_open
+    told pending c.crash_laws.ensures.here c.meter.ensures.contents c.meter.ensures.crash c.meter.ensures.time c.in-Ok-answer.ensures.gate
+    c.retire.ensures.crash c.retire.ensures.time c.close_slot.ensures.any_moment

@@ -8,17 +8,30 @@ use Rattle.uber_ring.proofs.ring.close_slot.Goals as goal
 
 pub returns-then-not-was_open-clause-any_moment : goal.returns-then-not-was_open-clause-any_moment
 returns-then-not-was_open-clause-any_moment g c =
-    by_barrier g.D.Disk.clock g.D.Disk.left_since g.D.Disk.may_leave (λ d i. MatchBool c.args.was_open (GateTorn c.args.slot d i) (i ≡ d)) c.args.disk.now c.crash_laws.ensures.now
-    (λ i left. subst (λ was_open. MatchBool was_open (GateTorn c.args.slot i i) (i ≡ i)) (sym c.if-not-was_open.true) refl) c.barrier.new.self c.barrier.ensures.crash c.barrier.ensures.time
+    by_barrier (λ d i. MatchBool c.args.was_open (GateTorn c.args.slot d i) (i ≡ d)) c.crash_laws.ensures.here
+    (λ i left. subst (λ was_open. MatchBool was_open (GateTorn c.args.slot i i) (i ≡ i)) (sym c.if-not-was_open.true) refl)
+    c.barrier.ensures.crash c.barrier.ensures.time
 
 pub returns-in_err-write-clause-any_moment : goal.returns-in_err-write-clause-any_moment
 returns-in_err-write-clause-any_moment g c =
-    by_write g.D.Disk.clock g.D.Disk.left_since g.D.Disk.may_leave (λ d i. MatchBool c.args.was_open (GateTorn c.args.slot d i) (i ≡ d)) c.args.disk.now c.crash_laws.ensures.now
-    (λ i left. subst (λ was_open. MatchBool was_open (GateTorn c.args.slot i i) (i ≡ i)) (sym c.if-not-was_open.false) (still_gate _ c.args.slot i (c.crash_laws.ensures.images i left))) c.write.new.self
-    (λ i left. let from = c.write.ensures.crash i left in (from.0, from.1, subst (λ was_open. MatchBool was_open (GateTorn c.args.slot from.0 i) (i ≡ from.0)) (sym c.if-not-was_open.false) (torn_gate c.args.slot from.0 i from.2))) c.write.ensures.time
+    by_write (λ d i. MatchBool c.args.was_open (GateTorn c.args.slot d i) (i ≡ d)) c.crash_laws.ensures.here
+    (λ i left. subst (λ was_open. MatchBool was_open (GateTorn c.args.slot i i) (i ≡ i)) (sym c.if-not-was_open.false)
+    (still_gate _ c.args.slot i (c.crash_laws.ensures.here.leaves_images i left)))
+    (λ i left. let from = c.write.ensures.crash i left in (
+      from.0,
+      from.1,
+      subst (λ was_open. MatchBool was_open (GateTorn c.args.slot from.0 i) (i ≡ from.0)) (sym c.if-not-was_open.false)
+          (torn_gate c.args.slot from.0 i from.2),
+    )) c.write.ensures.time
 
 pub returns-clause-any_moment : goal.returns-clause-any_moment
 returns-clause-any_moment g c =
-    by_write_and_barrier g.D.Disk.clock g.D.Disk.left_since g.D.Disk.may_leave (λ d i. MatchBool c.args.was_open (GateTorn c.args.slot d i) (i ≡ d)) c.args.disk.now c.crash_laws.ensures.now
-    (λ i left. subst (λ was_open. MatchBool was_open (GateTorn c.args.slot i i) (i ≡ i)) (sym c.if-not-was_open.false) (still_gate _ c.args.slot i (c.crash_laws.ensures.images i left))) c.write.new.self c.barrier-2.new.self
-    (λ i left. let from = c.write.ensures.crash i left in (from.0, from.1, subst (λ was_open. MatchBool was_open (GateTorn c.args.slot from.0 i) (i ≡ from.0)) (sym c.if-not-was_open.false) (torn_gate c.args.slot from.0 i from.2))) c.write.ensures.time c.barrier-2.ensures.crash c.barrier-2.ensures.time
+    by_write_and_barrier (λ d i. MatchBool c.args.was_open (GateTorn c.args.slot d i) (i ≡ d)) c.crash_laws.ensures.here
+    (λ i left. subst (λ was_open. MatchBool was_open (GateTorn c.args.slot i i) (i ≡ i)) (sym c.if-not-was_open.false)
+    (still_gate _ c.args.slot i (c.crash_laws.ensures.here.leaves_images i left)))
+    (λ i left. let from = c.write.ensures.crash i left in (
+      from.0,
+      from.1,
+      subst (λ was_open. MatchBool was_open (GateTorn c.args.slot from.0 i) (i ≡ from.0)) (sym c.if-not-was_open.false)
+          (torn_gate c.args.slot from.0 i from.2),
+    )) c.write.ensures.time c.barrier-2.ensures.crash c.barrier-2.ensures.time

@@ -6,9 +6,11 @@ use Rattle.uber_ring.proofs.ring.find.Goals as goal
 
 pub returns-then-sectors-lt-FEWEST_SECTORS-clause-found : goal.returns-then-sectors-lt-FEWEST_SECTORS-clause-found
 returns-then-sectors-lt-FEWEST_SECTORS-clause-found g c =
-    told_small c.args.version c.sectors.result (g.D.Disk.seen c.args.disk.now) c.sectors.ensures.told (search rules)
+    told_small c.args.version c.sectors.result (g.D.Disk.state c.args.disk.now).seen c.sectors.ensures.told (search rules)
 
 pub returns-clause-found : goal.returns-clause-found
 returns-clause-found g c =
     let ended : c.slots.slot ≡ slot_count = search rules in
-    told_all c.args.version (g.D.Disk.seen c.args.disk.now) c.slots.best (subst (λ n. IfSome (g.D.Disk.seen c.args.disk.now) (λ image. c.slots.best ≡ highest (seal_at c.args.version image) n)) ended c.slots.invariant.0)
+    told_all c.args.version (g.D.Disk.state c.args.disk.now).seen c.slots.best
+    (subst (λ n. IfSome (g.D.Disk.state c.args.disk.now).seen (λ image. c.slots.best ≡ highest (seal_at c.args.version image) n)) ended
+    c.slots.invariant.0)

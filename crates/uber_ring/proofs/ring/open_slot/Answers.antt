@@ -6,10 +6,13 @@ use Rattle.uber_ring.proofs.ring.open_slot.Goals as goal
 
 pub returns-in_err-write-clause-any_moment : goal.returns-in_err-write-clause-any_moment
 returns-in_err-write-clause-any_moment g c =
-    by_write g.D.Disk.clock g.D.Disk.left_since g.D.Disk.may_leave (GateTorn c.args.slot) c.args.disk.now c.crash_laws.ensures.now (λ i left. still_gate _ c.args.slot i (c.crash_laws.ensures.images i left)) c.write.new.self
+    by_write (GateTorn c.args.slot) c.crash_laws.ensures.here
+    (λ i left. still_gate _ c.args.slot i (c.crash_laws.ensures.here.leaves_images i left))
     (λ i left. let from = c.write.ensures.crash i left in (from.0, from.1, torn_gate c.args.slot from.0 i from.2)) c.write.ensures.time
 
 pub returns-clause-any_moment : goal.returns-clause-any_moment
 returns-clause-any_moment g c =
-    by_write_and_barrier g.D.Disk.clock g.D.Disk.left_since g.D.Disk.may_leave (GateTorn c.args.slot) c.args.disk.now c.crash_laws.ensures.now (λ i left. still_gate _ c.args.slot i (c.crash_laws.ensures.images i left)) c.write.new.self c.barrier.new.self
-    (λ i left. let from = c.write.ensures.crash i left in (from.0, from.1, torn_gate c.args.slot from.0 i from.2)) c.write.ensures.time c.barrier.ensures.crash c.barrier.ensures.time
+    by_write_and_barrier (GateTorn c.args.slot) c.crash_laws.ensures.here
+    (λ i left. still_gate _ c.args.slot i (c.crash_laws.ensures.here.leaves_images i left))
+    (λ i left. let from = c.write.ensures.crash i left in (from.0, from.1, torn_gate c.args.slot from.0 i from.2)) c.write.ensures.time
+    c.barrier.ensures.crash c.barrier.ensures.time

@@ -1,8 +1,7 @@
 -- What was written since the last barrier is in place from now on.
-use Rattle.std.proofs.Common.{rules, length, subst}
+use Rattle.std.proofs.Common.{◌≡◌, rules, [], ◌∷◌, ◌++◌, length, ◌∙◌, ap, subst}
 use Rattle.disk_model.specs.Images.{Image}
-use Rattle.disk_model.specs.Crashes.{Elapses}
-use Rattle.disk_model.specs.Memory.{MemoryDisk, MayBeLeft, MayLeave, WasLeft, WasLeftSince, cells_after, padded}
+use Rattle.disk_model.specs.Memory.{MemoryDisk, MayBeLeft, MayLeave, cells_after, padded}
 use Rattle.disk_model.proofs.Kept.{settled_at_barrier, left_at_barrier, elapses_to}
 use Rattle.disk_model.specs.declared.call.Call.TheVariants.{Barrier}
 use Rattle.disk_model.proofs.mem_disk.MemDiskDisk.barrier.Goals as goal
@@ -21,8 +20,8 @@ returns-clause-crash c =
 
 pub returns-clause-time : goal.returns-clause-time
 returns-clause-time c =
-    let cells = c.self.inside.cells.items in
-    let start = padded (length cells) c.self.inside.start.items in
-    let later = c.push.new.self.items in
-    let elapses = elapses_to (length cells) start c.self.inside.calls.items later Barrier (search rules) in
-    subst (λ (d : MemoryDisk). Elapses (length d.calls) (length later) (WasLeftSince d) (WasLeft (length cells) start later) (MayLeave (length cells) (cells_after start later))) c.self.view_is elapses
+    let as_many = ap (λ (d : MemoryDisk). d.sectors) c.self.view_is in
+    let same = ap (λ (d : MemoryDisk). d.start) c.self.view_is in
+    let calls = ap (λ (d : MemoryDisk). d.calls ++ Barrier ∷ []) c.self.view_is in
+    let recorded : c.push.new.self.items ≡ c.self.inside.calls.items ++ Barrier ∷ [] = search rules in
+    elapses_to c.args.self.now _ _ _ _ _ Barrier as_many same (recorded ∙ calls)

@@ -1,10 +1,10 @@
 -- The write goes behind the record, and its bytes into the sector.
-use Rattle.std.proofs.Common.{rules, length, sym, subst}
+use Rattle.std.proofs.Common.{◌≡◌, rules, [], ◌∷◌, ◌++◌, length, ◌∙◌, ap, sym, subst}
 use Rattle.std.specs.Prelude.{slice_set}
 use Rattle.std.proofs.lemmas.List.{length-set}
 use Rattle.disk_model.specs.Images.{Torn}
-use Rattle.disk_model.specs.Crashes.{Elapses, Follows}
-use Rattle.disk_model.specs.Memory.{MemoryDisk, MayBeLeft, MayLeave, WasLeft, WasLeftSince, IsKept, cells_after, padded}
+use Rattle.disk_model.specs.Crashes.{Follows}
+use Rattle.disk_model.specs.Memory.{MemoryDisk, MayBeLeft, MayLeave, IsKept, cells_after, padded}
 use Rattle.disk_model.proofs.Kept.{kept_by_write, left_by_write, elapses_to}
 use Rattle.disk_model.specs.declared.call.Call.TheVariants.{Write}
 use Rattle.disk_model.specs.declared.call.SectorWrite.{SectorWrite}
@@ -32,13 +32,10 @@ returns-clause-crash c =
 pub returns-clause-time : goal.returns-clause-time
 returns-clause-time c =
     let cells = c.self.inside.cells.items in
-    let start = c.self.inside.start.items in
-    let later = c.push.new.self.items in
-    let calls = c.self.inside.calls.items in
     let write : SectorWrite = record { at = c.args.at; bytes = c.args.from.now } in
-    let elapses = elapses_to (length cells) (padded (length cells) start) calls later (Write write) (search rules) in
-    let as_long =
-    subst (λ n. Elapses (length calls) (length later) (WasLeft (length cells) (padded (length cells) start) calls) (WasLeft n (padded n start) later) (MayLeave n (cells_after (padded n start) later)))
-    (sym (length-set cells c.args.at c.args.from.now)) elapses in
-    let new = length (slice_set cells c.args.at c.args.from.now) in
-    subst (λ (d : MemoryDisk). Elapses (length d.calls) (length later) (WasLeftSince d) (WasLeft new (padded new start) later) (MayLeave new (cells_after (padded new start) later))) c.self.view_is as_long
+    let as_long = length-set cells c.args.at c.args.from.now in
+    let as_many = as_long ∙ ap (λ (d : MemoryDisk). d.sectors) c.self.view_is in
+    let same = ap (λ n. padded n c.self.inside.start.items) as_long ∙ ap (λ (d : MemoryDisk). d.start) c.self.view_is in
+    let calls = ap (λ (d : MemoryDisk). d.calls ++ Write write ∷ []) c.self.view_is in
+    let recorded : c.push.new.self.items ≡ c.self.inside.calls.items ++ Write write ∷ [] = search rules in
+    elapses_to c.args.self.now _ _ _ _ _ (Write write) as_many same (recorded ∙ calls)

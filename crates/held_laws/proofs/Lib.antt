@@ -1,9 +1,0 @@
-pub mod BlocksOf
-pub mod ClassesOf
-pub mod MarksOf
-pub mod Members
-pub mod NamedPages
-pub mod Refilled
-pub mod SlotsOf
-pub mod SoundOf
-pub mod UnusedOf

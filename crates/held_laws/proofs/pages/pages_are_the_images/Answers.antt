@@ -1,5 +1,0 @@
-use Rattle.held_laws.proofs.NamedPages.{pages_by_seal, pages_as_written}
-use Rattle.held_laws.proofs.pages.pages_are_the_images.Goals as goal
-
-pub returns : goal.returns
-returns c = record { by_seal = pages_by_seal; as_written = pages_as_written }

@@ -1,5 +1,0 @@
-use Rattle.held_laws.proofs.UnusedOf.{found_unused, found_within, found_fresh}
-use Rattle.held_laws.proofs.places.first_free_are_fresh.Goals as goal
-
-pub returns : goal.returns
-returns c = record { unused = found_unused; within = found_within; fresh = found_fresh }

@@ -1,0 +1,184 @@
+//! Whether a group is in its ranges: the premise of a sync on the numbers of its group, as a test.
+
+ghost use Rattle.std.specs.Prelude.{◌≡◌, ◌≤◌, ◌<◌, true, length, map, IfSome};
+ghost use Rattle.std.specs.List.{AllByRecursion};
+ghost use Rattle.pool_model.specs.Plain.{stored_of};
+ghost use Rattle.table_state.specs.Flat.{IsWithin, IsChangeWithin};
+ghost use Rattle.table_state.specs.Sealed.{ChangesSlotWithin};
+ghost use Rattle.table_state.specs.SlotRecords.{is_slot, FitsSlot};
+ghost use Rattle.table_state.specs.Sound.{HasLength};
+ghost use Rattle.table_state.specs.Closing.{closed_of, IsInRange};
+
+use ddt_entry::{Change, Entry, MAX_BLOCK_BYTES, key_of};
+use pool_model::{Closed, SlotChange, StoredBlock};
+use table_state::{Pool, SlotRecord, slot_fits};
+
+/// The first sector in which a block can lie.
+const FIRST_PLACE: u64 = 32;
+
+/// The moments that a home can be counted since are below this one.
+const MOMENTS: u64 = 1 << 40;
+
+/// How many pointers a home can have at the most.
+const MOST_POINTERS: u64 = 1_048_576;
+
+/// How many bytes a block has at the most.
+const MOST_BYTES: u64 = 4096;
+
+/// The highest number of a lane.
+const LAST_LANE: u32 = 15;
+
+/// The highest number of a slot.
+const LAST_SLOT: u32 = 65_535;
+
+/// Whether what a group leaves is in its ranges, for the next group of this pool. At the end of the numbers
+/// of groups it isn't.
+pub fn is_in_range(pool: &Pool, closed: &Closed) -> bool
+    ensures { result ≡ true → IsInRange pool.now (closed_of closed.now) }
+{
+    let sectors = pool.sectors;
+    let Some(group) = pool.sealed.checked_add(1) else {
+        return false;
+    };
+    if !changes_within(closed.changes.as_slice(), sectors, group) {
+        return false;
+    }
+    if !have_lengths(closed.changes.as_slice()) {
+        return false;
+    }
+    if !slots_within(closed.slots.as_slice(), sectors, group) {
+        return false;
+    }
+    blocks_within(closed.contents.as_slice(), sectors)
+}
+
+/// Whether the numbers of each change are in their ranges.
+fn changes_within(log: &[Change], sectors: u64, group: u64) -> bool
+    ensures { result ≡ true → AllByRecursion (IsChangeWithin sectors group) log.now }
+{
+    'changes: for change in log {
+        if !is_change_within(change, sectors, group) {
+            return false;
+        }
+    }
+    true
+}
+
+/// Whether the numbers of a change are in their ranges. A key that is gone has none.
+fn is_change_within(change: &Change, sectors: u64, group: u64) -> bool
+    ensures { result ≡ true → IsChangeWithin sectors group change.now }
+{
+    match change {
+        Change::Entry(entry) => is_within(entry, sectors, group),
+        Change::Gone(_) => true,
+    }
+}
+
+/// Whether the numbers of an entry are in their ranges.
+fn is_within(entry: &Entry, sectors: u64, group: u64) -> bool
+    ensures { result ≡ true → IsWithin sectors group entry.now }
+{
+    entry.home.place >= FIRST_PLACE
+        && entry.home.place < sectors
+        && entry.home.birth >= 1
+        && entry.home.birth <= group
+        && entry.home.since < MOMENTS
+        && entry.home.count <= MOST_POINTERS
+}
+
+/// Whether the key of each change has a length that a key can have.
+fn have_lengths(log: &[Change]) -> bool
+    ensures { result ≡ true → AllByRecursion HasLength log.now }
+{
+    'changes: for change in log {
+        if !has_length(change) {
+            return false;
+        }
+    }
+    true
+}
+
+/// Whether the key of a change has a length that a key can have.
+fn has_length(change: &Change) -> bool
+    ensures { result ≡ true → HasLength change.now }
+{
+    let key = key_of(change);
+    key.len >= 1 && key.len <= MAX_BLOCK_BYTES
+}
+
+/// Whether each change of a slot is in its ranges.
+fn slots_within(changes: &[SlotChange], sectors: u64, group: u64) -> bool
+    ensures { result ≡ true → AllByRecursion (ChangesSlotWithin sectors group) changes.now }
+{
+    'slots: for change in changes {
+        if !is_slot_within(change, sectors, group) {
+            return false;
+        }
+    }
+    true
+}
+
+/// Whether a change of a slot is in its ranges.
+fn is_slot_within(change: &SlotChange, sectors: u64, group: u64) -> bool
+    ensures { result ≡ true → ChangesSlotWithin sectors group change.now }
+{
+    if change.lane > LAST_LANE {
+        return false;
+    }
+    if change.slot > LAST_SLOT {
+        return false;
+    }
+    let Some(pointer) = change.pointer else {
+        return true;
+    };
+    let held = SlotRecord {
+        lane: change.lane,
+        slot: change.slot,
+        pointer,
+    };
+    slot_fits(held);
+    is_slot(&held, sectors, group)
+}
+
+/// Whether the numbers of a slot are in their ranges.
+fn is_slot(held: &SlotRecord, sectors: u64, group: u64) -> bool
+    ensures { result ≡ is_slot sectors group held.now }
+{
+    held.lane <= LAST_LANE
+        && held.slot <= LAST_SLOT
+        && (held.pointer.key.len >= 1 && held.pointer.key.len <= MAX_BLOCK_BYTES)
+        && held.pointer.place >= FIRST_PLACE
+        && held.pointer.place < sectors
+        && held.pointer.birth >= 1
+        && held.pointer.birth <= group
+}
+
+/// Whether each block lies behind the ring, in the pool's sectors, and fits a sector.
+fn blocks_within(blocks: &[StoredBlock], sectors: u64) -> bool
+    ensures behind { result ≡ true → AllByRecursion (λ stored. 32 ≤ stored.place) (map stored_of blocks.now) }
+    ensures on_disk { result ≡ true → AllByRecursion (λ stored. stored.place < sectors) (map stored_of blocks.now) }
+    ensures lengths { result ≡ true → AllByRecursion (λ stored. length stored.bytes ≤ 4096) (map stored_of blocks.now) }
+{
+    each_within(blocks, sectors)
+}
+
+/// The same of the blocks as code has them.
+fn each_within(blocks: &[StoredBlock], sectors: u64) -> bool
+    ensures behind { result ≡ true → AllByRecursion (λ stored. 32 ≤ stored.place) blocks.now }
+    ensures on_disk { result ≡ true → AllByRecursion (λ stored. stored.place < sectors) blocks.now }
+    ensures lengths { result ≡ true → AllByRecursion (λ stored. length stored.block.items ≤ 4096) blocks.now }
+{
+    'each: for stored in blocks {
+        if !is_block_within(stored, sectors) {
+            return false;
+        }
+    }
+    true
+}
+
+/// Whether a block lies behind the ring, in the pool's sectors, and fits a sector.
+fn is_block_within(stored: &StoredBlock, sectors: u64) -> bool
+    ensures { result ≡ true → (32 ≤ stored.now.place) × (stored.now.place < sectors) × (length stored.now.block.items ≤ 4096) }
+{
+    stored.place >= FIRST_PLACE && stored.place < sectors && stored.block.len() <= MOST_BYTES
+}

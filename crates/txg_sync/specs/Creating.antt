@@ -1,0 +1,21 @@
+-- What the creation of a pool comes to.
+use Rattle.std.specs.Prelude.{◌≡◌, ◌⊎◌, ⊤, ℕ, Option, Some, None}
+use Rattle.disk_model.specs.Images.{Image}
+use Rattle.pool_model.specs.Run.{first_standing}
+use Rattle.table_state.specs.Flat.{HasNoPool}
+use Rattle.table_state.specs.Holding.{Holds, StandsOver}
+use Rattle.table_state.specs.Pools.{Held}
+
+-- no seal counts in told contents
+abbrev pub HasNoSeal : Option Image → Type 0
+HasNoSeal None = ⊤
+HasNoSeal (Some image) = HasNoPool image
+
+-- while the first seal is written no seal counts yet, or the image holds the new pool
+abbrev pub NoneOrNew : (tag sectors : ℕ) → Image → Type 0
+NoneOrNew tag sectors c = HasNoPool c ⊎ Holds tag c (first_standing sectors)
+
+-- a pool was created: the pool in memory is over the new one
+abbrev pub Creates : (old new : Option Image) → (sectors : ℕ) → Held → Type 0
+Creates None new sectors held = ⊤
+Creates (Some image) new sectors held = (c : Image) × (new ≡ Some c) × StandsOver c held (first_standing sectors)
