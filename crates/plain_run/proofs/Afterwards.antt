@@ -5,8 +5,8 @@ use Rattle.std.proofs.lemmas.List.{take_more}
 use Rattle.std.proofs.lemmas.List.Elements.{filter_map-append}
 use Rattle.std.specs.Option.{option_map_or, option_to_list}
 use Rattle.pool_model.specs.declared.commands.Command.{Command}
-use Rattle.pool_model.specs.declared.notes.LaneNote.{LaneNote}
-use Rattle.pool_model.specs.Plain.{task_of, lane_told}
+use Rattle.pool_model.specs.declared.notes.GroupNote.{GroupNote}
+use Rattle.pool_model.specs.Plain.{task_of, told_of}
 use Rattle.pool_model.specs.Command.{Opening, Course}
 use Rattle.pool_model.specs.Pool.{Pool, Pointer}
 use Rattle.pool_model.specs.Group.{Standing, block_or, course_of, fresh_of, lane_by_lane, after_lanes}
@@ -20,9 +20,11 @@ bytes_at-after (p ∷ ps) blocks place =
     elim (p.place == place) as (λ b. option_map_or (λ (block : Placed). block.content) (cond b (Some (placed_of p)) (find (λ block. block.place == place) (map placed_of ps ++ blocks))) [] ≡ block_or (bytes_at blocks place) (cond b (Some p) (find (λ q. q.place == place) ps)))
     [ true ↦ refl | false ↦ bytes_at-after ps blocks place ]
 
--- standings agree where their pools and tables are the same, and the bytes at each place
-pub same_standing : (a b : Standing) → a.pool ≡ b.pool → a.table ≡ b.table → ((place : ℕ) → a.blocks place ≡ b.blocks place) → a ≡ b
-same_standing a b pool table blocks = λ i. record { pool = pool i; table = table i; blocks = λ place. blocks place i }
+-- standings agree where their pools and tables are the same, the bytes at each place, their sectors and their pages
+pub same_standing : (a b : Standing) → a.pool ≡ b.pool → a.table ≡ b.table → ((place : ℕ) → a.blocks place ≡ b.blocks place)
+    → a.sectors ≡ b.sectors → a.pages ≡ b.pages → a ≡ b
+same_standing a b pool table blocks sectors pages =
+    λ i. record { pool = pool i; table = table i; blocks = λ place. blocks place i; sectors = sectors i; pages = pages i }
 
 listed : {X : Type 0} (o : Option X) → cons_option o [] ≡ option_to_list o
 listed None = refl
@@ -38,14 +40,17 @@ filter_map_more h xs i d ys more o within so_far here pushed =
     ∙ sym (filter_map-append h (take i xs) (get_or xs i d ∷ []))
     ∙ ap (filter_map h) (sym (take_more xs i d within))
 
--- courses agree where their openings, pools, commands and notes are the same
-pub same_course : (o o' : Opening) (p p' : Pool) (commands commands' : List Command) (notes notes' : List LaneNote) → o ≡ o' → p ≡ p' → commands ≡ commands' → notes ≡ notes' → course_of o p (fresh_of (map lane_told notes)) (lane_by_lane (map task_of commands) (map lane_told notes)) ≡ course_of o' p' (fresh_of (map lane_told notes')) (lane_by_lane (map task_of commands') (map lane_told notes'))
-same_course o o' p p' commands commands' notes notes' opening pool list noted = λ i.
-    course_of (opening i) (pool i) (fresh_of (map lane_told (noted i))) (lane_by_lane (map task_of (list i)) (map lane_told (noted i)))
+-- courses agree where their openings, pools and commands are the same
+pub same_course : (o o' : Opening) (p p' : Pool) (commands commands' : List Command) (note : GroupNote) → o ≡ o' → p ≡ p' → commands ≡ commands'
+    → course_of o p (fresh_of (told_of note).lanes) (lane_by_lane (map task_of commands) (told_of note))
+    ≡ course_of o' p' (fresh_of (told_of note).lanes) (lane_by_lane (map task_of commands') (told_of note))
+same_course o o' p p' commands commands' note opening pool list = λ i.
+    course_of (opening i) (pool i) (fresh_of (told_of note).lanes) (lane_by_lane (map task_of (list i)) (told_of note))
 
 -- so do what stands after two groups
-pub same_after : (o o' : Opening) (s : Standing) (k k' : Course) → o ≡ o' → k ≡ k' → after_lanes o s k ≡ after_lanes o' s k'
-same_after o o' s k k' opening course = λ i. after_lanes (opening i) s (course i)
+pub same_after : (o o' : Opening) (s : Standing) (k k' : Course) (pages : List ℕ) → o ≡ o' → k ≡ k'
+    → after_lanes o s k pages ≡ after_lanes o' s k' pages
+same_after o o' s k k' pages opening course = λ i. after_lanes (opening i) s (course i) pages
 
 -- a value that is one thing in an `Ok` is whatever that is
 pub same_if_ok : {X T E : Type 0} (f : T → X) (r : Result T E) (a b : X) → a ≡ b → IfOk r (λ t. f t ≡ a) → IfOk r (λ t. f t ≡ b)

@@ -167,7 +167,7 @@ impl PlainCourse {
     ) -> Result<Row, AllocError>
         requires some { 0 < length content.now }
         requires fits { length content.now < 2 ^ 32 }
-        ensures { IfOk result (λ row. row_of row ≡ write_row (opening_by (K.key_of keyer.now) opening.now)
+        ensures { IfOk result (λ row. row_of row ≡ write_row (opening_by (K.keying keyer.now).key_of opening.now)
             self.now (turn_of command.now noted.now) content.now) }
     {
         if self.pool.held(command.lane, command.slot).is_some() {
@@ -201,7 +201,7 @@ impl PlainCourse {
     ) -> Result<PlainCourse, AllocError>
         requires some { 0 < length content.items }
         requires fits { length content.items < 2 ^ 32 }
-        ensures { IfOk result (λ next. next ≡ after_write (opening_by (K.key_of keyer.now) opening.now)
+        ensures { IfOk result (λ next. next ≡ after_write (opening_by (K.keying keyer.now).key_of opening.now)
             self (turn_of command.now noted.now) content.items) }
     {
         let key = keyer.key(content.as_slice());
@@ -221,7 +221,7 @@ impl PlainCourse {
         command: &Command,
         noted: &CommandAnswer,
     ) -> Result<PlainCourse, AllocError>
-        ensures { IfOk result (λ next. next ≡ after_act read (opening_by (K.key_of keyer.now) opening.now)
+        ensures { IfOk result (λ next. next ≡ after_act read (opening_by (K.keying keyer.now).key_of opening.now)
             self (turn_of command.now noted.now)) }
     {
         let sight = match self.pool.held(command.lane, command.slot) {
@@ -306,7 +306,7 @@ impl PlainCourse {
         noted: &CommandAnswer,
     ) -> Result<PlainCourse, AllocError>
         requires { WritesContent (act_of command.now.verb) }
-        ensures { IfOk result (λ next. next ≡ after (opening_by (K.key_of keyer.now) opening.now)
+        ensures { IfOk result (λ next. next ≡ after (opening_by (K.keying keyer.now).key_of opening.now)
             self (turn_of command.now noted.now)) }
     {
         match &command.verb {

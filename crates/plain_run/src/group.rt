@@ -1,6 +1,6 @@
 ghost use Rattle.std.specs.Prelude.{◌≡◌, ℕ, List, [], IfOk, All, map, fold, replicate, ◌↔◌, IsTrue};
 ghost use Rattle.pool_model.specs.Pool.{lane_count};
-ghost use Rattle.pool_model.specs.Plain.{task_of, act_of, lane_told};
+ghost use Rattle.pool_model.specs.Plain.{task_of, act_of, lane_told, told_of};
 ghost use Rattle.pool_model.specs.Command.{after};
 ghost use Rattle.pool_model.specs.Group.{opened, course_of, turns_of, lane_by_lane, fresh_of};
 ghost use Rattle.plain_run.specs.Openings.{opening_by};
@@ -11,7 +11,7 @@ use crate::fresh::{PlaceQueue, set_places};
 use crate::opening::PlainOpening;
 use ddt_entry::KeyOf;
 use plain_pool::{LANES, PlainPool};
-use pool_model::{Command, LaneNote, Payload, Verb};
+use pool_model::{Command, GroupNote, LaneNote, Payload, Verb};
 use std::alloc::{AllocError, Global};
 
 impl PlainCourse {
@@ -39,7 +39,7 @@ impl PlainCourse {
         note: &LaneNote,
     ) -> Result<PlainCourse, AllocError>
         requires { All (λ command. WritesContent (act_of command.verb)) commands.now }
-        ensures { IfOk result (λ next. next ≡ fold (after (opening_by (K.key_of keyer.now) opening.now))
+        ensures { IfOk result (λ next. next ≡ fold (after (opening_by (K.keying keyer.now).key_of opening.now))
             self (turns_of (map task_of commands.now) (lane_told note.now))) }
     {
         let mut course = self;
@@ -76,7 +76,7 @@ fn writes_content(verb: &Verb) -> bool
     }
 }
 
-/// A group's lanes one after another, with the fresh places and the answers of their notes. Each
+/// A group's lanes one after another, with the fresh places and the answers of its note. Each
 /// answer that the course then has is one that the definitions give.
 pub fn after_lanes<K: KeyOf>(
     alloc: Global,
@@ -84,16 +84,17 @@ pub fn after_lanes<K: KeyOf>(
     opening: &PlainOpening,
     pool: PlainPool,
     commands: &[Command],
-    notes: &[LaneNote],
+    note: &GroupNote,
 ) -> Result<PlainCourse, AllocError>
     requires { All (λ command. WritesContent (act_of command.verb)) commands.now }
     ensures { IfOk result (λ course. course
-        ≡ course_of (opening_by (K.key_of keyer.now) opening.now) pool (fresh_of (map lane_told notes.now))
-        (lane_by_lane (map task_of commands.now) (map lane_told notes.now))) }
+        ≡ course_of (opening_by (K.keying keyer.now).key_of opening.now) pool
+        (fresh_of (told_of note.now).lanes) (lane_by_lane (map task_of commands.now) (told_of note.now))) }
 {
+    let notes = note.lanes.as_slice();
     let mut course = PlainCourse::opened(alloc, pool, fresh_of(alloc, notes)?);
-    for note in notes {
-        course = course.after_lane(alloc, keyer, opening, commands, note)?;
+    for lane in notes {
+        course = course.after_lane(alloc, keyer, opening, commands, lane)?;
     }
     Ok(course)
 }

@@ -168,7 +168,7 @@ pub fn sight<K: KeyOf>(
     failed: bool,
 ) -> Result<ReadAnswer, AllocError>
     ensures { IfOk result (λ sight. sight_of sight
-        ≡ sight_at (Some pointer.now) (opening_by (K.key_of keyer.now) _opening.now) failed) }
+        ≡ sight_at (Some pointer.now) (opening_by (K.keying keyer.now).key_of _opening.now) failed) }
 {
     if failed {
         return Ok(ReadAnswer::Fault);
@@ -181,7 +181,7 @@ pub fn sight<K: KeyOf>(
 
 /// Whether a pointer's content has its key. One of another length never has.
 fn has_its_key<K: KeyOf>(keyer: &K, pointer: &PlainPointer) -> bool
-    ensures { result ≡ key_eq (K.key_of keyer.now pointer.now.content) pointer.now.key }
+    ensures { result ≡ key_eq ((K.keying keyer.now).key_of pointer.now.content) pointer.now.key }
 {
     if pointer.content.len() != u64::from(pointer.key.len) {
         return false;

@@ -19,7 +19,7 @@ fn verify_row<K: KeyOf>(
 ) -> Row
     requires some { 0 < length content.now }
     requires fits { length content.now < 2 ^ 32 }
-    ensures { row_of result ≡ verify_row (K.key_of keyer.now) known.now content.now allowed moment }
+    ensures { row_of result ≡ verify_row (K.keying keyer.now).key_of known.now content.now allowed moment }
 {
     let Some(known) = known else {
         return new_row(allowed, moment);
@@ -38,7 +38,7 @@ fn verify_row<K: KeyOf>(
 fn shares_key<K: KeyOf>(keyer: &K, block: &[u8], content: &[u8]) -> bool
     requires some { 0 < length content.now }
     requires fits { length content.now < 2 ^ 32 }
-    ensures { result ≡ key_eq (K.key_of keyer.now block.now) (K.key_of keyer.now content.now) }
+    ensures { result ≡ key_eq ((K.keying keyer.now).key_of block.now) ((K.keying keyer.now).key_of content.now) }
 {
     if block.len() != content.len() {
         return false;
@@ -59,7 +59,7 @@ pub fn mode_row<K: KeyOf>(
     requires some { 0 < length content.now }
     requires fits { length content.now < 2 ^ 32 }
     ensures { row_of result
-        ≡ mode_row mode (opening_by (K.key_of keyer.now) opening.now) known.now content.now failed allowed }
+        ≡ mode_row mode (opening_by (K.keying keyer.now).key_of opening.now) known.now content.now failed allowed }
 {
     match mode {
         Mode::Off => off_row(),

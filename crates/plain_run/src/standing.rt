@@ -1,8 +1,8 @@
 ghost use Rattle.std.specs.Prelude.{◌≡◌, ◌+◌, ◌^◌, ◌<◌, ℕ, List, IfOk, All, map, ◌++◌};
 ghost use Rattle.ddt_entry.specs.declared.key.Key.{Key};
-ghost use Rattle.pool_model.specs.Group.{opening_of, after_lanes, lane_by_lane};
+ghost use Rattle.pool_model.specs.Group.{Rules, opening_of, after_lanes, lanes_in_turn};
 ghost use Rattle.pool_model.specs.Plain.{Told, task_of, act_of, told_of, lanes, prune, quota, set_mode};
-ghost use Rattle.pool_model.specs.Run.{Order, first_standing, noted_course, sealed_standing};
+ghost use Rattle.pool_model.specs.Run.{first_standing, noted_course, sealed_standing};
 ghost use Rattle.plain_run.specs.Courses.{WritesContent};
 ghost use Rattle.plain_run.specs.Openings.{bytes_at, opening_by};
 ghost use Rattle.plain_run.specs.Placed.{placed_of};
@@ -17,23 +17,28 @@ use plain_table::PlainTable;
 use pool_model::{GroupNote, LanesGroup, Mode, PruneRule};
 use std::alloc::{AllocError, Global};
 
-/// A pool with its table, and the bytes at each place that is named.
+/// A pool with its table, the bytes at each place that is named, how many sectors it has, and those of
+/// its image's pages.
 #[derive(Drop)]
 pub struct PlainStanding {
     pub pool: PlainPool,
     pub table: PlainTable,
     pub blocks: Vec<PlacedBlock>,
+    pub sectors: u64,
+    pub pages: Vec<u64>,
 }
 
 impl PlainStanding {
-    /// The empty pool of a new image.
-    pub fn new(alloc: Global) -> PlainStanding
-        ensures { standing_of result ≡ first_standing }
+    /// The empty pool of a new image of so many sectors.
+    pub fn new(alloc: Global, sectors: u64) -> PlainStanding
+        ensures { standing_of result ≡ first_standing sectors }
     {
         PlainStanding {
             pool: PlainPool::new(alloc),
             table: PlainTable::new(alloc),
             blocks: Vec::new(alloc),
+            sectors,
+            pages: Vec::new(alloc),
         }
     }
 
@@ -47,7 +52,7 @@ impl PlainStanding {
     ) -> Result<PlainCourse, AllocError>
         requires room { self.now.pool.group + 1 < 2 ^ 64 }
         requires contents { All (λ command. WritesContent (act_of command.verb)) group.now.commands.items }
-        ensures { IfOk result (λ course. course ≡ noted_course lane_by_lane (K.key_of keyer.now)
+        ensures { IfOk result (λ course. course ≡ noted_course (lanes_in_turn (K.keying keyer.now))
             (standing_of self.now) group.now.moment (map task_of group.now.commands.items) (told_of note.now)) }
     {
         let opening = self.opening(alloc, group.moment)?;
@@ -58,44 +63,48 @@ impl PlainStanding {
             &opening,
             pool,
             group.commands.as_slice(),
-            note.lanes.as_slice(),
+            note,
         )
     }
 
-    /// What stands after a group of lanes' commands, by its note.
+    /// What stands after a group of lanes' commands, by its note, with these pages.
     pub fn after_group<K: KeyOf>(
         self,
         alloc: Global,
         keyer: &K,
         group: &LanesGroup,
         note: &GroupNote,
+        pages: Vec<u64>,
     ) -> Result<PlainStanding, AllocError>
         requires room { self.pool.group + 1 < 2 ^ 64 }
         requires contents { All (λ command. WritesContent (act_of command.verb)) group.now.commands.items }
         ensures { IfOk result (λ next. standing_of next
-            ≡ sealed_standing lane_by_lane (K.key_of keyer.now) (standing_of self)
-            (lanes group.now.moment (map task_of group.now.commands.items)) (told_of note.now)) }
+            ≡ sealed_standing (lanes_in_turn (K.keying keyer.now)) (standing_of self)
+            (lanes group.now.moment (map task_of group.now.commands.items)) (told_of note.now) pages.items) }
     {
         let opening = self.opening(alloc, group.moment)?;
         let course = self.course(alloc, keyer, group, note)?;
-        self.after_course(alloc, &opening, course)
+        self.after_course(alloc, &opening, course, pages)
     }
 
-    /// What stands after a prune.
+    /// What stands after a prune, with these pages.
     pub fn after_prune(
         self,
         alloc: Global,
         rule: PruneRule,
         moment: u64,
+        pages: Vec<u64>,
     ) -> Result<PlainStanding, AllocError>
         requires { self.pool.group + 1 < 2 ^ 64 }
-        ensures { (order : Order) (key_of : List ℕ → Key) (told : Told) → IfOk result (λ next.
-            standing_of next ≡ sealed_standing order key_of (standing_of self) (prune moment rule) told) }
+        ensures { (rules : Rules) (told : Told) → IfOk result (λ next.
+            standing_of next ≡ sealed_standing rules (standing_of self) (prune moment rule) told pages.items) }
     {
         let PlainStanding {
             pool,
             table,
             blocks,
+            sectors,
+            pages: _,
         } = self;
         let number = pool.group + 1;
         let changes = pool.prune_changes(alloc, rule, moment)?;
@@ -103,39 +112,51 @@ impl PlainStanding {
             pool: pool.after_prune(alloc, rule, moment)?.in_group(number),
             table: table.sync_table(alloc, changes.as_slice())?,
             blocks,
+            sectors,
+            pages,
         })
     }
 
-    /// What stands after the quota was set, or taken away.
-    pub fn after_quota(self, alloc: Global, limit: Option<u64>) -> Result<PlainStanding, AllocError>
+    /// What stands after the quota was set, or taken away, with these pages.
+    pub fn after_quota(
+        self,
+        alloc: Global,
+        limit: Option<u64>,
+        pages: Vec<u64>,
+    ) -> Result<PlainStanding, AllocError>
         requires { self.pool.group + 1 < 2 ^ 64 }
-        ensures { (order : Order) (key_of : List ℕ → Key) (told : Told) → IfOk result (λ next.
-            standing_of next ≡ sealed_standing order key_of (standing_of self) (quota limit) told) }
+        ensures { (rules : Rules) (told : Told) → IfOk result (λ next.
+            standing_of next ≡ sealed_standing rules (standing_of self) (quota limit) told pages.items) }
     {
         let number = self.pool.group + 1;
         Ok(PlainStanding {
             pool: self.pool.with_quota(limit).in_group(number),
             table: self.table.sync_table(alloc, &[])?,
             blocks: self.blocks,
+            sectors: self.sectors,
+            pages,
         })
     }
 
-    /// What stands after the mode of a lane was set.
+    /// What stands after the mode of a lane was set, with these pages.
     pub fn after_mode(
         self,
         alloc: Global,
         lane: u32,
         mode: Mode,
+        pages: Vec<u64>,
     ) -> Result<PlainStanding, AllocError>
         requires { self.pool.group + 1 < 2 ^ 64 }
-        ensures { (order : Order) (key_of : List ℕ → Key) (told : Told) → IfOk result (λ next.
-            standing_of next ≡ sealed_standing order key_of (standing_of self) (set_mode lane mode) told) }
+        ensures { (rules : Rules) (told : Told) → IfOk result (λ next.
+            standing_of next ≡ sealed_standing rules (standing_of self) (set_mode lane mode) told pages.items) }
     {
         let number = self.pool.group + 1;
         Ok(PlainStanding {
             pool: self.pool.with_mode(lane, mode).in_group(number),
             table: self.table.sync_table(alloc, &[])?,
             blocks: self.blocks,
+            sectors: self.sectors,
+            pages,
         })
     }
 
@@ -153,15 +174,16 @@ impl PlainStanding {
         })
     }
 
-    /// What stands after a group of lanes' commands, by its course.
+    /// What stands after a group of lanes' commands, by its course, with these pages.
     pub fn after_course(
         self,
         alloc: Global,
         opening: &PlainOpening,
         course: PlainCourse,
+        pages: Vec<u64>,
     ) -> Result<PlainStanding, AllocError>
         ensures { (key_of : List ℕ → Key) → IfOk result (λ next.
-            standing_of next ≡ after_lanes (opening_by key_of opening.now) (standing_of self) course) }
+            standing_of next ≡ after_lanes (opening_by key_of opening.now) (standing_of self) course pages.items) }
     {
         let changes = course.changes_of(alloc, opening)?;
         let found = self.pool;
@@ -169,6 +191,8 @@ impl PlainStanding {
             pool: course.pool.in_group(opening.number),
             table: self.table.sync_table(alloc, changes.as_slice())?,
             blocks: blocks_after(alloc, found.pointers.as_slice(), self.blocks)?,
+            sectors: self.sectors,
+            pages,
         })
     }
 }

@@ -193,7 +193,8 @@ fn write_stats(report: &mut String, stats: &Stats) -> Result<(), AllocError> {
     Ok(())
 }
 
-/// A run of the plain program over the lines of a command file.
+/// A run of the plain program over the lines of a command file. No answer hangs on the pages of an image,
+/// so none are given.
 #[derive(Drop)]
 struct Replay {
     standing: PlainStanding,
@@ -259,7 +260,7 @@ impl Replay {
             write_answer(&mut report, &answer.answer)?;
         }
         Ok(Replay {
-            standing: standing.after_group(alloc, keyer, &group, &note)?,
+            standing: standing.after_group(alloc, keyer, &group, &note, Vec::new(alloc))?,
             moment,
             commands: Vec::new(alloc),
             report,
@@ -277,14 +278,16 @@ impl Replay {
         assert!(rt; self.standing.pool.group < 1000);
         let taken = self.standing.pool.pruned(alloc, rule, at)?.len();
         write!(self.report, " sealed {taken}")?;
-        self.standing = self.standing.after_prune(alloc, rule, at)?;
+        self.standing = self.standing.after_prune(alloc, rule, at, Vec::new(alloc))?;
         Ok(self)
     }
 
     /// After a setting of the quota.
     fn after_quota(mut self, rt: &impl Abort, alloc: Global, limit: u64) -> Result<Replay, Fail> {
         assert!(rt; self.standing.pool.group < 1000);
-        self.standing = self.standing.after_quota(alloc, Some(limit))?;
+        self.standing = self
+            .standing
+            .after_quota(alloc, Some(limit), Vec::new(alloc))?;
         Ok(self)
     }
 
@@ -297,7 +300,9 @@ impl Replay {
         mode: Mode,
     ) -> Result<Replay, Fail> {
         assert!(rt; self.standing.pool.group < 1000);
-        self.standing = self.standing.after_mode(alloc, lane, mode)?;
+        self.standing = self
+            .standing
+            .after_mode(alloc, lane, mode, Vec::new(alloc))?;
         Ok(self)
     }
 
@@ -319,7 +324,7 @@ fn report_of<K: KeyOf>(
     file: &str,
 ) -> Result<String, Fail> {
     let mut replay = Replay {
-        standing: PlainStanding::new(alloc),
+        standing: PlainStanding::new(alloc, 2048),
         moment: 0,
         commands: Vec::new(alloc),
         report: String::new(alloc),

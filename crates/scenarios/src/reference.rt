@@ -59,7 +59,7 @@ fn plain_group(
     let course = standing.course(alloc, &Sha256Key, group, note)?;
     assert!(rt; is_as_noted(&course, note));
     let opening = standing.opening(alloc, group.moment)?;
-    Ok(standing.after_course(alloc, &opening, course)?)
+    Ok(standing.after_course(alloc, &opening, course, Vec::new(alloc))?)
 }
 
 // What stands behind all groups of a file.
@@ -69,7 +69,7 @@ fn plain_groups(
     items: &[Item],
     notes: &[GroupNote],
 ) -> Result<PlainStanding, Fail> {
-    let mut standing = PlainStanding::new(alloc);
+    let mut standing = PlainStanding::new(alloc, 2_048);
     let mut left = notes;
     for item in items {
         if let Item::Lanes(group) = item {

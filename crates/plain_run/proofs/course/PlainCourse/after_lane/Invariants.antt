@@ -6,5 +6,6 @@ use Rattle.plain_run.proofs.course.PlainCourse.after_lane.Given as goal
 
 abbrev pub invariant-loop-command : goal.invariant-loop-command
 invariant-loop-command g l =
-    fold (after (opening_by (g.K.KeyOf.key_of l.keyer) l.opening)) l.course (turns_left l.note.lane (drop l.command-index l.commands) l.answers)
-    ≡ fold (after (opening_by (g.K.KeyOf.key_of l.keyer) l.opening)) l.initial.course (turns_left l.note.lane l.commands l.initial.answers)
+    let step = after (opening_by (g.K.KeyOf.keying l.keyer).key_of l.opening) in
+    fold step l.course (turns_left l.note.lane (drop l.command-index l.commands) l.answers)
+    ≡ fold step l.initial.course (turns_left l.note.lane l.commands l.initial.answers)

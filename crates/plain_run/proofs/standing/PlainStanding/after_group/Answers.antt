@@ -4,5 +4,6 @@ use Rattle.plain_run.proofs.standing.PlainStanding.after_group.Goals as goal
 
 pub returns : goal.returns
 returns g c =
-    let same = same_after _ _ (standing_of c.args.self) _ _ (c.in_ok-opening.ensures (g.K.KeyOf.key_of c.args.keyer.now)) c.in_ok-course.ensures in
-    same_if_ok standing_of c.after_course.result _ _ same (c.after_course.ensures (g.K.KeyOf.key_of c.args.keyer.now))
+    let key_of = (g.K.KeyOf.keying c.args.keyer.now).key_of in
+    let same = same_after _ _ (standing_of c.args.self) _ _ c.args.pages.items (c.in_ok-opening.ensures key_of) c.in_ok-course.ensures in
+    same_if_ok standing_of c.after_course.result _ _ same (c.after_course.ensures key_of)
