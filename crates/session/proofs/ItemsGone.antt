@@ -1,113 +1,211 @@
 -- The loop over a session's items: where it begins, goes on, and ends.
-use Rattle.std.proofs.Common.{◌≡◌, ◌≤◌, ◌<◌, ◌+◌, ◌-◌, ◌^◌, ℕ, cond, min, List, [], ◌∷◌, ◌++◌, map, take, drop, get_or, length, Option, Some, None, refl, sym, ap, ◌∙◌, arith, subst, zero, suc, Result, Ok, Err, inl}
+use Rattle.std.proofs.Common.{◌≡◌, ◌≤◌, ◌<◌, ◌+◌, ◌-◌, ◌^◌, ℕ, true, min, sum_by, List, [], ◌∷◌, ◌++◌, map, take, drop, get_or, length, Option, Some, None, refl, sym, ap, ◌∙◌, arith, subst, zero, suc, Result, Ok, Err, inl}
+use Rattle.std.specs.List.{AllByRecursion}
 use Rattle.std.proofs.lemmas.List.{take_more, map-append}
-use Rattle.std.proofs.lemmas.Bool.{eq-eqb}
 use Rattle.std.proofs.lemmas.Bool.Decides.{nat_tests}
 use Rattle.std.proofs.KnownBytes.{Appends-nil}
 use Rattle.disk_model.specs.Images.{Image}
+use Rattle.disk_model.specs.Crashes.{DiskState, IsDisk}
 use Rattle.disk_model.proofs.Moments.{started}
-use Rattle.ddt_entry.specs.declared.key.Key.{Key}
-use Rattle.cmd_file.specs.Items.{IsItem}
 use Rattle.pool_model.specs.declared.commands.Item.{Item}
 use Rattle.pool_model.specs.declared.notes.Session.{Session}
-use Rattle.pool_model.specs.Plain.{Part, Told, part_of}
-use Rattle.pool_model.specs.Group.{Standing, lane_by_lane}
-use Rattle.pool_model.specs.Run.{pages_since, ended_items, last_standing}
+use Rattle.pool_model.specs.Plain.{Part, Told, part_of, told_of}
+use Rattle.pool_model.specs.Group.{Standing, Rules}
+use Rattle.pool_model.specs.Run.{RunStep, last_standing, parts_of, notes_of}
 use Rattle.pool_model.specs.Crash.{AnyStands}
-use Rattle.pool_model.specs.Space.{image_pages}
-use Rattle.std.specs.List.{AllByRecursion}
+use Rattle.pool_model.proofs.Steps.{parts_of-append, notes_of-append}
+use Rattle.table_state.specs.Holding.{Holds}
 use Rattle.table_state.specs.Pools.{Held}
 use Rattle.table_state.specs.SealForms.{last_group}
-use Rattle.session.specs.Crashing.{Holds}
-use Rattle.session.specs.Entries.{IsOnDisk, IsOver, last_start}
-use Rattle.session.specs.Items.{HasNoClashIn, ItemWent, ItemDone, ItemCut}
-use Rattle.session.specs.Going.{IsGoing, GoesOn}
-use Rattle.session.specs.Stopping.{IsStopped, StopsIn}
+use Rattle.table_state.proofs.Held.{holds_over}
+use Rattle.session.specs.Devices.{Devices, between}
+use Rattle.session.specs.Entries.{last_start}
+use Rattle.session.specs.Origins.{origin, may_begin}
+use Rattle.session.specs.StageEntries.{IsOnDisk, IsOver}
+use Rattle.session.specs.StageItems.{HasNoClashIn, ItemWent, may_end_item}
+use Rattle.session.specs.StageGoing.{GoesOn, StopsIn}
 use Rattle.session.specs.Running.{told_in, faults_in, RoseBeyond}
 use Rattle.session.specs.declared.status.Status.{Status}
-use Rattle.session.proofs.Goings.{no_clash_now, more_going, stop_now}
+use Rattle.session.proofs.Goings.{no_clash_now, with_item, of_item, more_going, stop_now}
 
 -- the first so many items were done
-pub record HasGone {D : Type 0} (clock : D → ℕ) (left_since : D → ℕ → Image → Type 0) (may_leave : D → Image → Type 0) (seen : D → Option Image) (sectors_of read_faults write_faults : D → ℕ) (start now : D)
-    (key_of : List ℕ → Key) (tag : ℕ) (first held : Held) (items : List Item) (i : ℕ) (session : Session) (old new : Option (List ℕ)) (sink_before sink_now : ℕ) : Type 0 where
-  pub sectors : sectors_of now ≡ sectors_of start
-  pub on_disk : IsOnDisk (sectors_of now) (seen now) tag held
-  pub early : (image : Image) → seen now ≡ Some image → held.group ≤ last_start + i
+pub record HasGone (devices : Devices) (rules : Rules) (first held : Held) (items : List Item) (i : ℕ) (session : Session) : Type 0 where
+  pub sectors : devices.after.sectors ≡ devices.before.sectors
+  pub on_disk : IsOnDisk devices.after rules.keying.tag held
+  pub early : (image : Image) → devices.after.seen ≡ Some image → held.group ≤ last_start + i
   pub sealed : session.sealed ≡ held.group
   pub room : length items ≤ session.groups.spare + i
-  pub going : GoesOn clock left_since may_leave seen start now key_of tag first (map part_of items) (map part_of (take i items)) (told_in session) held session.sealed old new
-  pub reads : min (read_faults start + faults_in session) (2 ^ 64 - 1) ≤ read_faults now
-  pub writes : write_faults start ≤ write_faults now
-  pub sink : sink_before ≤ sink_now
+  pub going : GoesOn devices rules first (map part_of items) (map part_of (take i items)) (told_in session) held session.sealed
+  pub reads : min (devices.before.read_faults + faults_in session) (2 ^ 64 - 1) ≤ devices.after.read_faults
+  pub writes : devices.before.write_faults ≤ devices.after.write_faults
+  pub sink : devices.sink_before ≤ devices.sink_now
 
 -- what holds of each item by recursion
-pub item_at : {X Y : Type 0} (P : Y → Type 0) (f : X → Y) (xs : List X) (i : ℕ) (d : X) → i < length xs → AllByRecursion P (map f xs) → P (f (get_or xs i d))
+pub item_at : {X Y : Type 0} (P : Y → Type 0) (f : X → Y) (xs : List X) (i : ℕ) (d : X) → i < length xs → AllByRecursion P (map f xs)
+    → P (f (get_or xs i d))
 item_at P f [] i d h all = absurd (omega arith)
 item_at P f (x ∷ xs) zero d h all = all.0
 item_at P f (x ∷ xs) (suc i) d h all = item_at P f xs i d (omega arith) all.1
 
 -- some items, one, and the rest
-pub split_at : (items : List Item) (i : ℕ) (d : Item) → i < length items → map part_of items ≡ map part_of (take i items) ++ part_of (get_or items i d) ∷ map part_of (drop (suc i) items)
+split_at : (items : List Item) (i : ℕ) (d : Item) → i < length items
+    → map part_of items ≡ map part_of (take i items) ++ part_of (get_or items i d) ∷ map part_of (drop (suc i) items)
 split_at [] i d h = absurd (omega arith)
 split_at (x ∷ xs) zero d h = refl
 split_at (x ∷ xs) (suc i) d h = ap (λ ps. part_of x ∷ ps) (split_at xs i d (omega arith))
 
-since_itself : (group pages : ℕ) (s : Standing) → s.pool.group ≡ group → pages_since group pages s ≡ pages
-since_itself group pages s e = ap (λ b. cond b pages (image_pages s.pool s.table)) (eq-eqb s.pool.group group e)
+pub split_of : (items : List Item) (i : ℕ) (item : Item) → i < length items → item ≡ get_or items i item
+    → map part_of items ≡ map part_of (take i items) ++ part_of item ∷ map part_of (drop (suc i) items)
+split_of items i item within is =
+    split_at items i item within ∙ ap (λ x. map part_of (take i items) ++ part_of x ∷ map part_of (drop (suc i) items)) (sym is)
 
-module _ {D : Type 0} (clock : D → ℕ) (left_since : D → ℕ → Image → Type 0) (may_leave : D → Image → Type 0) (seen : D → Option Image) (key_of : List ℕ → Key) (tag : ℕ) (first : Held) (parts : List Part) (start : D) where
+-- a crash leaves what the pool in memory is over
+pub over_leaves : (disk : DiskState) (held : Held) (s : Standing) (tag : ℕ) → IsOver disk held s → held.tag ≡ tag
+    → (c : Image) → disk.may_leave c → Holds tag c s
+over_leaves disk held s tag over tag_is c leaves =
+    subst (λ (i : Image). Holds tag i s) (sym (over.quiet.1 c leaves))
+    (subst (λ (t : ℕ). Holds t over.image s) tag_is (holds_over over.image held s over.stands))
+
+module _ (rules : Rules) (first : Held) (parts : List Part) where
   -- before the first item
-  pub goes_start : (sealed : ℕ) (written : Option (List ℕ)) → ((c : Image) → left_since start (clock start) c → may_leave start c) → first.tag ≡ tag → sealed ≡ first.group
-      → GoesOn clock left_since may_leave seen start start key_of tag first parts [] [] first sealed written written
-  goes_start sealed written now tag_is sealed_is = λ s pages over clash. record {
-    run = refl;
-    over = record { image = over.image; told = over.told; quiet = over.quiet; stands = over.stands; pages_are = over.pages_are ∙ sym (since_itself s.pool.group pages s refl) };
-    later = omega arith;
-    modes = refl;
-    sectors_are = refl;
-    sealed_is = sealed_is ∙ over.stands.is_held.group_is;
-    text = Appends-nil written;
-    others = λ content is. is;
-    crash = started clock left_since start (λ c. AnyStands (Holds tag c) (s ∷ [])) (λ c left. inl (subst (λ (i : Image). Holds tag i s) (sym (over.quiet.1 c (now c left))) (subst (λ (t : ℕ). Holds t over.image s) tag_is over.stands.is_held.stands)));
-  }
+  pub goes_start : (start : DiskState) (written : Option (List ℕ)) (sink sealed : ℕ) → IsDisk start
+      → first.tag ≡ rules.keying.tag → sealed ≡ first.group
+      → GoesOn (between start start written written sink sink) rules first parts [] [] first sealed
+  goes_start start written sink sealed is tag_is sealed_is = λ s over clash. (
+    [],
+    refl,
+    refl,
+    record {
+      run = tt;
+      over = over;
+      sealed_is = sealed_is ∙ over.stands.is_held.group_is;
+      modes = refl;
+      text = Appends-nil written;
+      others = λ content none. none;
+      crash = started (λ c. AnyStands (Holds rules.keying.tag c) (s ∷ []))
+          (λ c left. inl (over_leaves start first s rules.keying.tag over tag_is c (is.only_now c left)));
+    },
+  )
 
-  -- one item more
-  module _ (mid new : D) (done : List Part) (part : Part) (rest : List Part) (notes : List Told) (told : List Told) (held held' : Held) (sealed sealed' : ℕ) (old written now : Option (List ℕ)) (split : parts ≡ done ++ part ∷ rest) where
-    abbrev Went : (result : Result (Unit {0}) Status) → Type 0
-    Went result = (s : Standing) (group pages : ℕ) → IsOver (seen mid) (may_leave mid) (pages_since group pages s) held s → group ≤ s.pool.group → HasNoClashIn key_of s part
-        → (more : List Told) × (told ≡ notes ++ more) × ItemWent clock left_since may_leave seen mid new held.sectors group pages key_of tag s part more held' sealed' written now result
+  -- nothing is noted yet, and so no faults
+  none_told : (session : Session) → session.groups.items ≡ [] → told_in session ≡ []
+  none_told session new = ap (map told_of) new
 
-    pub goes_more : IsItem part → ((image : Image) → seen mid ≡ Some image → held'.sectors ≡ held.sectors) → GoesOn clock left_since may_leave seen start mid key_of tag first parts done notes held sealed old written → Went (Ok tt)
-        → GoesOn clock left_since may_leave seen start new key_of tag first parts (done ++ part ∷ []) told held' sealed' old now
-    goes_more is size goes went = λ s pages over clash.
-        let going = goes s pages over clash in
-        let at : Standing = last_standing s (ended_items lane_by_lane key_of done notes s) in
-        let item = went at s.pool.group pages going.over going.later (no_clash_now key_of s at parts done rest part split going.modes going.others clash) in
-        subst (λ (n : List Told). IsGoing clock left_since may_leave seen start new first.sectors pages key_of tag s parts (done ++ part ∷ []) n held' sealed' old now) (sym item.1)
-        (more_going clock left_since may_leave seen start mid new first.sectors pages key_of tag s parts done part rest notes item.0 held held' sealed sealed' old written now split is size going
-        (subst (λ (n : ℕ). ItemDone clock left_since may_leave seen mid new n s.pool.group pages key_of tag at part item.0 held' sealed' written now) going.sectors_are item.2))
+  no_more : (reads most : ℕ) → min (reads + 0) most ≤ reads
+  no_more reads most = grind (arith, nat_tests)
 
-    pub goes_stop : (status : Status) → GoesOn clock left_since may_leave seen start mid key_of tag first parts done notes held sealed old written → Went (Err status)
-        → StopsIn clock left_since may_leave seen start new key_of tag first parts told sealed' old now status
-    goes_stop status goes went = λ s pages over clash.
-        let going = goes s pages over clash in
-        let at : Standing = last_standing s (ended_items lane_by_lane key_of done notes s) in
-        let item = went at s.pool.group pages going.over going.later (no_clash_now key_of s at parts done rest part split going.modes going.others clash) in
-        subst (λ (n : List Told). IsStopped clock left_since may_leave start new first.sectors pages key_of tag s parts n sealed' old now status) (sym item.1)
-        (stop_now clock left_since may_leave seen start mid new first.sectors pages key_of tag s parts done part rest notes item.0 held held' sealed sealed' old written now split status going
-        (subst (λ (n : ℕ). ItemCut clock left_since may_leave mid new n s.pool.group pages key_of tag at part item.0 sealed' written now status) going.sectors_are item.2))
+  none_read : (session : Session) (reads : ℕ) → session.groups.items ≡ [] → min (reads + faults_in session) (2 ^ 64 - 1) ≤ reads
+  none_read session reads new =
+      subst (λ (notes : List Told). min (reads + sum_by (λ told. sum_by (λ lane. lane.faults) told.lanes) notes) (2 ^ 64 - 1) ≤ reads)
+      (sym (none_told session new)) (no_more reads (2 ^ 64 - 1))
+
+  module _ (devices : Devices) (new : DiskState) (now : Option (List ℕ)) (sink : ℕ) where
+    module _ {held : Held} {notes : List Told} {sealed : ℕ} (done rest : List Part) (part : Part) (split : parts ≡ done ++ part ∷ rest)
+        (goes : GoesOn devices rules first parts done notes held sealed) where
+      module _ (told : List Told) (held' : Held) (sealed' : ℕ) where
+        -- what the item came to, wherever it began
+        abbrev pub Went : Result Unit Status → Type 0
+        Went result = (s : Standing) → IsOver devices.after held s → HasNoClashIn rules.keying.key_of s part
+            → (more : List Told) × (told ≡ notes ++ more) × ItemWent (of_item devices new now sink) rules s part more held' sealed' result
+
+        parts_more : (steps : List RunStep) (step : RunStep) → done ≡ parts_of steps → step.part ≡ part
+            → done ++ part ∷ [] ≡ parts_of (steps ++ step ∷ [])
+        parts_more steps step were is =
+            ap (λ (d : List Part). d ++ part ∷ []) were ∙ ap (λ (p : Part). parts_of steps ++ p ∷ []) (sym is)
+            ∙ sym (parts_of-append steps (step ∷ []))
+
+        notes_more : (steps : List RunStep) (step : RunStep) (more : List Told) → notes ≡ notes_of steps → told ≡ notes ++ more
+            → more ≡ notes_of (step ∷ []) → told ≡ notes_of (steps ++ step ∷ [])
+        notes_more steps step more were is one =
+            is ∙ ap (λ (n : List Told). n ++ more) were ∙ ap (λ (n : List Told). notes_of steps ++ n) one
+            ∙ sym (notes_of-append steps (step ∷ []))
+
+        split_now : (steps : List RunStep) (step : RunStep) → done ≡ parts_of steps → step.part ≡ part
+            → parts ≡ parts_of steps ++ step.part ∷ rest
+        split_now steps step were is =
+            subst (λ (p : Part). parts ≡ parts_of steps ++ p ∷ rest) (sym is)
+            (subst (λ (d : List Part). parts ≡ d ++ part ∷ rest) were split)
+
+        -- one item more
+        pub goes_more : Went (Ok tt) → GoesOn (with_item devices new now sink) rules first parts (done ++ part ∷ []) told held' sealed'
+        goes_more went = λ s over clash.
+            let so_far = goes s over clash in
+            let going = so_far.3 in
+            let at : Standing = last_standing s so_far.0 in
+            let item = went at going.over
+            (no_clash_now rules.keying.key_of s at parts done rest part split going.modes going.others clash) in
+            let step = item.2.0 in (
+              so_far.0 ++ step ∷ [],
+              parts_more so_far.0 step so_far.1 item.2.1,
+              notes_more so_far.0 step item.0 so_far.2 item.1 item.2.2,
+              more_going devices new now sink rules s parts so_far.0 rest step (split_now so_far.0 step so_far.1 item.2.1) going item.2.3,
+            )
+
+        -- the session ended in the item
+        pub goes_stop : (status : Status) → ((image : Image) → devices.after.seen ≡ Some image → may_begin (origin status) ≡ true)
+            → may_end_item (origin status) ≡ true → Went (Err status)
+            → StopsIn (with_item devices new now sink) rules first parts told sealed' status
+        goes_stop status begun ended went = λ s over clash.
+            let so_far = goes s over clash in
+            let going = so_far.3 in
+            let at : Standing = last_standing s so_far.0 in
+            let item = went at going.over
+            (no_clash_now rules.keying.key_of s at parts done rest part split going.modes going.others clash) in
+            let step = item.2.0 in (
+              so_far.0 ++ step ∷ [],
+              notes_more so_far.0 step item.0 so_far.2 item.1 item.2.2,
+              stop_now devices new now sink rules s parts so_far.0 rest step (split_now so_far.0 step so_far.1 item.2.1) status
+                  (begun going.over.image going.over.told) ended going item.2.3,
+            )
+
+-- no item was done yet
+pub gone_start : (rules : Rules) (first : Held) (items : List Item) (session : Session) (start : DiskState)
+    → (written : Option (List ℕ)) (sink : ℕ)
+    → IsDisk start → IsOnDisk start rules.keying.tag first → ((image : Image) → start.seen ≡ Some image → first.group ≤ last_start)
+    → session.sealed ≡ first.group → length items ≤ session.groups.spare → session.groups.items ≡ []
+    → HasGone (between start start written written sink sink) rules first first items 0 session
+gone_start rules first items session start written sink is on_disk early sealed room new =
+    let parts : List Part = map part_of items in
+    record {
+      sectors = refl;
+      on_disk = on_disk;
+      early = λ image told. early_start first.group last_start (early image told);
+      sealed = sealed;
+      room = room_start (length items) session.groups.spare room;
+      going =
+          subst
+          (λ (notes : List Told). GoesOn (between start start written written sink sink) rules first parts [] notes first session.sealed)
+          (sym (none_told rules first parts session new))
+          (goes_start rules first parts start written sink session.sealed is on_disk.tag_is sealed);
+      reads = none_read rules first parts session start.read_faults new;
+      writes = omega arith;
+      sink = omega arith;
+    }
+  where
+    early_start : (group last : ℕ) → group ≤ last → group ≤ last + 0
+    early_start group last early = omega (arith, early)
+
+    room_start : (count spare : ℕ) → count ≤ spare → count ≤ spare + 0
+    room_start count spare room = omega (arith, room)
+
+-- a number that two runs keep
+pub same_sectors : (start mid new : ℕ) → mid ≡ start → new ≡ mid → new ≡ start
+same_sectors start mid new before now = now ∙ before
 
 -- faults that were counted before, and more
 min_more : (a f later m n most : ℕ) → min (a + f) most ≤ m → min (m + (later - f)) most ≤ n → f ≤ later → min (a + later) most ≤ n
 min_more a f later m n most before now more = grind (arith, nat_tests)
 
-beyond_more : (a f later m n most : ℕ) → min (a + f) most ≤ m → min (m + (later - f) + 1) most ≤ n → f ≤ later → min (a + later + 1) most ≤ n
+beyond_more : (a f later m n most : ℕ) → min (a + f) most ≤ m → min (m + (later - f) + 1) most ≤ n → f ≤ later
+    → min (a + later + 1) most ≤ n
 beyond_more a f later m n most before now more = grind (arith, nat_tests)
 
-pub reads_more : (start mid new : ℕ) (f later : ℕ) → min (start + f) (2 ^ 64 - 1) ≤ mid → min (mid + (later - f)) (2 ^ 64 - 1) ≤ new → f ≤ later → min (start + later) (2 ^ 64 - 1) ≤ new
+pub reads_more : (start mid new : ℕ) (f later : ℕ) → min (start + f) (2 ^ 64 - 1) ≤ mid → min (mid + (later - f)) (2 ^ 64 - 1) ≤ new
+    → f ≤ later → min (start + later) (2 ^ 64 - 1) ≤ new
 reads_more start mid new f later before now more = min_more start f later mid new (2 ^ 64 - 1) before now more
 
-pub reads_beyond : (start mid new : ℕ) (f later : ℕ) → min (start + f) (2 ^ 64 - 1) ≤ mid → RoseBeyond (later - f) mid new → f ≤ later → RoseBeyond later start new
+pub reads_beyond : (start mid new : ℕ) (f later : ℕ) → min (start + f) (2 ^ 64 - 1) ≤ mid → RoseBeyond (later - f) mid new → f ≤ later
+    → RoseBeyond later start new
 reads_beyond start mid new f later before now more = beyond_more start f later mid new (2 ^ 64 - 1) before now more
 
 -- the next group's number is in its range
@@ -115,20 +213,23 @@ pub number_fits : (group i n : ℕ) → group ≤ last_start + i → i < n → n
 number_fits group i n early below few = omega (arith, early, below, few)
 
 -- contents that are told now were told before
-pub told_before : {D : Type 0} (seen : D → Option Image) (mid new : D) (image : Image) → (seen mid ≡ None → seen new ≡ None) → seen new ≡ Some image → (before : Image) × (seen mid ≡ Some before)
-told_before seen mid new image untold e = by_told (seen mid) refl
-  where
-    by_told : (told : Option Image) → seen mid ≡ told → (before : Image) × (seen mid ≡ Some before)
-    by_told None was = (let none = untold was in cc)
-    by_told (Some before) was = (before, was)
+pub told_before : (mid new : Option Image) (image : Image) → (mid ≡ None → new ≡ None) → new ≡ Some image
+    → (before : Image) × (mid ≡ Some before)
+told_before None new image untold told = (let none = untold refl in absurd (cc (none, told)))
+told_before (Some before) new image untold told = (before, refl)
 
 -- the group's number after one item more
-pub early_more : {D : Type 0} (seen : D → Option Image) (mid new : D) (first held held' i : ℕ) → (seen mid ≡ None → seen new ≡ None)
-    → ((image : Image) → seen mid ≡ Some image → held ≤ first + i) → ((image : Image) → seen mid ≡ Some image → held' ≤ held + 1) → (image : Image) → seen new ≡ Some image → held' ≤ first + (i + 1)
-early_more seen mid new first held held' i untold early next image e =
-    let was = told_before seen mid new image untold e in
+pub early_more : (mid new : Option Image) (first held held' i : ℕ) → (mid ≡ None → new ≡ None)
+    → ((image : Image) → mid ≡ Some image → held ≤ first + i) → ((image : Image) → mid ≡ Some image → held' ≤ held + 1)
+    → (image : Image) → new ≡ Some image → held' ≤ first + (i + 1)
+early_more mid new first held held' i untold early next image told =
+    let was = told_before mid new image untold told in
     omega (arith, early was.0 was.1, next was.0 was.1)
 
 -- the first so many items, and the next one
-pub done_more : (items : List Item) (i : ℕ) (item : Item) → i < length items → item ≡ get_or items i item → map part_of (take i items) ++ part_of item ∷ [] ≡ map part_of (take (i + 1) items)
-done_more items i item within is = sym (ap (map part_of) (take_more items i item within) ∙ map-append part_of (take i items) (get_or items i item ∷ []) ∙ ap (λ x. map part_of (take i items) ++ part_of x ∷ []) (sym is))
+pub done_more : (items : List Item) (i : ℕ) (item : Item) → i < length items → item ≡ get_or items i item
+    → map part_of (take i items) ++ part_of item ∷ [] ≡ map part_of (take (i + 1) items)
+done_more items i item within is =
+    sym (ap (map part_of) (take_more items i item within)
+    ∙ map-append part_of (take i items) (get_or items i item ∷ [])
+    ∙ ap (λ x. map part_of (take i items) ++ part_of x ∷ []) (sym is))

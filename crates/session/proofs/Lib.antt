@@ -1,15 +1,11 @@
-pub mod Causes
-pub mod Ends
-pub mod Goings
-pub mod Imported
-pub mod ItemEnds
-pub mod ItemsGone
-pub mod Looked
-pub mod Made
-pub mod Opened
-pub mod Rooms
-pub mod Sealing
-pub mod Sessions
-pub mod Settings
-pub mod SyncedPools
-pub mod Unsealed
+mod Causes
+mod Goings
+mod Imported
+mod ItemEnds
+mod ItemsGone
+mod Looked
+mod Made
+mod Opened
+mod Sealing
+mod Sessions
+mod Unsealed

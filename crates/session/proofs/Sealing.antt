@@ -1,127 +1,235 @@
--- A group whose lanes have run, and its sync: it was sealed, or the session ends in it.
-use Rattle.std.proofs.Common.{◌≡◌, ◌∙◌, ◌≤◌, ◌+◌, ℕ, Bool, true, false, cond, Option, Some, None, Result, Err, List, [], ◌∷◌, ◌++◌, length, map, refl, sym, ap, subst, inl, inr, ⊎_elim, arith}
-use Rattle.std.specs.Prelude.{◌⊎◌, IsErrOf}
+-- A group whose lanes were run is sealed, or the session ends in its sync.
+use Rattle.std.proofs.Common.{◌≡◌, ◌∙◌, ◌≤◌, ◌+◌, ℕ, Bool, true, false, cond, Option, Some, None, Result, Err, List, [], ◌∷◌, length, map, take, refl, sym, ap, subst, inl, inr, ⊎_elim, arith}
+use Rattle.std.specs.Prelude.{◌⊎◌, ◌≢◌, not, unwrap_or, IsErrOf}
+use Rattle.std.specs.List.{count_by}
 use Rattle.std.proofs.lemmas.Bool.{eq-eqb}
 use Rattle.std.proofs.lemmas.List.{length-map}
+use Rattle.std.proofs.Math.Nat.{mod-lt}
 use Rattle.disk_model.specs.Images.{Image, Stays, sector_at}
-use Rattle.disk_model.specs.Crashes.{LeavesOnly, NothingPending}
+use Rattle.disk_model.specs.Crashes.{DiskState, IsDisk, LeavesOnly, NothingPending}
 use Rattle.disk_model.proofs.Moments.{weakened, at_end}
+use Rattle.ddt_entry.specs.Keys.{Keying}
 use Rattle.ddt_entry.specs.declared.key.Key.{Key}
+use Rattle.ddt_entry.specs.declared.entry.Home.{Home}
+use Rattle.uber_ring.specs.Ring.{gate_sector, body_sector, slot_of}
 use Rattle.pool_model.specs.declared.faults.SyncFault.{SyncFault}
 use Rattle.pool_model.specs.declared.faults.SyncFault.TheVariants as syncs
-use Rattle.pool_model.specs.declared.notes.Kind.{Kind}
-use Rattle.pool_model.specs.declared.notes.Kind.TheVariants.{Lanes}
 use Rattle.pool_model.specs.declared.notes.Outcome.{Outcome}
 use Rattle.pool_model.specs.declared.notes.Outcome.TheVariants.{Sealed, Cut}
-use Rattle.pool_model.specs.Plain.{Task, Part, lanes, LaneTold, Told}
-use Rattle.pool_model.specs.Group.{Standing, lane_by_lane, lanes_of}
-use Rattle.pool_model.specs.Run.{Order, kind_of, pages_since, sealed_standing}
-use Rattle.pool_model.specs.Crash.{AnyStands, StandsAt, has_its_lanes, begun_by, begun_item, begun}
-use Rattle.table_state.specs.Flat.{StandsFor}
-use Rattle.table_state.specs.Pools.{Held}
+use Rattle.pool_model.specs.Pool.{Pool}
+use Rattle.pool_model.specs.Table.{TableState, flush_limit}
+use Rattle.pool_model.specs.Plain.{Task, lanes, LaneTold, Told}
+use Rattle.pool_model.specs.Space.{need, space_lacking, changes_in, writes_in, used_sectors, free_count, image_pages}
+use Rattle.pool_model.specs.Group.{Standing, Rules, lanes_of, lanes_in_turn, AreFresh, IsFree}
+use Rattle.pool_model.specs.Run.{HasFlatRoom, given_by, sealed_standing}
+use Rattle.pool_model.specs.Crash.{AnyStands, StandsAt, has_its_lanes, begun_by}
 use Rattle.pool_model.proofs.Kept.{clash_kept}
-use Rattle.txg_sync.specs.Placing.{pages_of}
-use Rattle.txg_sync.specs.Planning.{Group}
-use Rattle.txg_sync.specs.Syncing.{table_after, records_after, Syncs, SyncLeaves, CanSyncOver}
-use Rattle.lane_run.specs.Groups.{StandsOver, IsRunFrom}
-use Rattle.session.specs.Crashing.{Holds}
-use Rattle.session.specs.Entries.{StandsForTold}
-use Rattle.session.specs.Groups.{HasRunOver, GroupEnded, GroupCut, status_by}
-use Rattle.session.specs.Items.{is_write_fault}
-use Rattle.session.proofs.Rooms.{room_of}
-use Rattle.session.proofs.SyncedPools.{over_later}
-use Rattle.session.proofs.Unsealed.{holds_now}
+use Rattle.table_state.specs.Flat.{StandsFor}
+use Rattle.table_state.specs.Pools.{Held, IsHeld}
+use Rattle.table_state.specs.Holding.{Holds, StandsOver, WaitingStand}
+use Rattle.table_state.specs.Closing.{PlainClosed, CanSyncOver, pages_of, pool_with, records_after, standing_with, table_after}
+use Rattle.table_state.proofs.Held.{holds_over, standing_over, stands_as_held}
+use Rattle.table_state.proofs.RoomLaws.{sealed_pages}
+use Rattle.txg_sync.specs.Syncing.{BeforeGate, IsSynced, KeepsNamed, SyncLeaves, Syncs}
+use Rattle.lane_run.specs.Groups.{IsRunFrom, KeepsWaiting}
+use Rattle.session.specs.Faults.{status_of}
+use Rattle.session.specs.StageEntries.{IsOver, StandsForTold}
+use Rattle.session.specs.StageGroups.{HasRunOver, GroupEnded, GroupCut, group_step}
+use Rattle.session.specs.Running.{is_write_fault}
 
--- the note of a group that was cut, with its lanes, begins the group
-begun_cut : (order : Order) (key_of : List ℕ → Key) (s : Standing) (part : Part) (kind : Kind) (told : Told) → kind_of part ≡ Some kind → has_its_lanes part told ≡ true → told.outcome ≡ Cut
-    → begun order key_of (part ∷ []) (told ∷ []) s ≡ sealed_standing order key_of s part told ∷ []
-begun_cut order key_of s part kind told is has cut =
-    ap (λ (k : Option Kind). begun_item (begun order key_of []) order key_of s part k (told ∷ [])) is
-    ∙ ap (λ (o : Outcome). begun_by o order key_of s part told ++ []) cut
-    ∙ ap (λ b. cond b (sealed_standing order key_of s part told ∷ []) [] ++ []) has
+-- ---- What stands after a group
 
-has_lanes : (moment : ℕ) (tasks : List Task) (told : Told) → map (λ (lane : LaneTold). lane.lane) told.lanes ≡ lanes_of tasks → has_its_lanes (lanes moment tasks) told ≡ true
-has_lanes moment tasks told each = eq-eqb (length told.lanes) (length (lanes_of tasks)) (sym (length-map told.lanes (λ (lane : LaneTold). lane.lane)) ∙ ap (λ (ls : List ℕ). length ls) each)
+-- what holds a standing holds one that differs in its blocks alone, where the homes that wait have theirs
+moved : (tag : ℕ) (c : Image) (a b : Standing) → a.pool ≡ b.pool → a.table ≡ b.table → a.sectors ≡ b.sectors → a.pages ≡ b.pages
+    → WaitingStand c b → Holds tag c a → Holds tag c b
+moved tag c a b pool table sectors pages waiting holds =
+    let there : Holds tag c (record b { blocks = a.blocks }) =
+    subst (Holds tag c) (λ i. record { pool = pool i; table = table i; blocks = a.blocks; sectors = sectors i; pages = pages i }) holds in
+    record { state = there.state; sectors = there.sectors; pages = there.pages; waiting = waiting }
+
+moved_over : (c : Image) (held : Held) (a b : Standing) → a.pool ≡ b.pool → a.table ≡ b.table → a.sectors ≡ b.sectors → a.pages ≡ b.pages
+    → WaitingStand c b → StandsOver c held a → StandsOver c held b
+moved_over c held a b pool table sectors pages waiting over = record {
+  is_held = subst (λ (t : TableState). IsHeld c held b.pool t) table (subst (λ (p : Pool). IsHeld c held p a.table) pool over.is_held);
+  sectors = over.sectors ∙ sectors;
+  pages = over.pages ∙ pages;
+  waiting = waiting;
+}
+
+-- a sector behind the ring is none of it
+not_gate : (at number : ℕ) → 32 ≤ at → at ≢ gate_sector (slot_of number)
+not_gate at number behind e = absurd (omega (arith, behind, e, mod-lt number {m = 16} (omega arith)))
+
+not_body : (at number : ℕ) → 32 ≤ at → at ≢ body_sector (slot_of number)
+not_body at number behind e = absurd (omega (arith, behind, e, mod-lt number {m = 16} (omega arith)))
+
+-- what waits after a group has its block in each image that its sync may leave
+waits_later : (image c : Image) (held : Held) (after : Standing) → KeepsWaiting image held after → KeepsNamed held image c → WaitingStand c after
+waits_later image c held after keeps only key home is_found none =
+    let kept = keeps key home is_found none in
+    kept.2 ∙ ap (take key.len) (sym (only home.place (not_gate home.place (held.group + 1) kept.1) (not_body home.place (held.group + 1) kept.1) kept.0))
+
+-- ---- The group's note
+
+has_lanes : (moment : ℕ) (tasks : List Task) (told : Told) → map (λ (lane : LaneTold). lane.lane) told.lanes ≡ lanes_of tasks
+    → has_its_lanes (lanes moment tasks) told ≡ true
+has_lanes moment tasks told each =
+    eq-eqb (length told.lanes) (length (lanes_of tasks))
+    (sym (length-map told.lanes (λ (lane : LaneTold). lane.lane)) ∙ ap (λ (ls : List ℕ). length ls) each)
+
+-- a group that was cut with its lanes noted was begun
+begun_cut : (s after : Standing) (moment : ℕ) (tasks : List Task) (told : Told) → has_its_lanes (lanes moment tasks) told ≡ true
+    → begun_by (group_step s (lanes moment tasks) (record told { outcome = Cut }) after) ≡ after ∷ []
+begun_cut s after moment tasks told has = ap (λ b. cond b (after ∷ []) []) has
+
+-- a group finds room by what is kept in memory where it does so by what stands
+abbrev lacking : (left : ℕ) → (pages : List ℕ) → TableState → List Task → Option Outcome
+lacking left pages table tasks = space_lacking left (need (length pages) (flush_limit table) (changes_in tasks) (writes_in tasks))
+
+pub same_lacking : (image : Image) (held : Held) (s : Standing) (tasks : List Task) → StandsOver image held s
+    → lacking (count_by not held.used) held.pages held.table tasks ≡ lacking (free_count s.sectors s.pages s.pool s.table) s.pages s.table tasks
+same_lacking image held s tasks over =
+    ap (λ used. lacking (count_by not used) held.pages held.table tasks) over.is_held.used_are
+    ∙ ap (λ table. lacking (free_count held.sectors held.pages s.pool s.table) held.pages table tasks) over.is_held.table_is
+    ∙ ap (λ pages. lacking (free_count held.sectors pages s.pool s.table) pages s.table tasks) over.pages
+    ∙ ap (λ sectors. lacking (free_count sectors s.pages s.pool s.table) s.pages s.table tasks) over.sectors
 
 -- a run can be synced over what the disk still tells
-pub can_over : (key_of : List ℕ → Key) (old mid : Option Image) (held : Held) (moment : ℕ) (tasks : List Task) (told : Told) (closed : Group) → (old ≡ None → mid ≡ None) → Stays old mid → StandsForTold old held
-    → ((image : Image) (s : Standing) → old ≡ Some image → StandsOver image held s → IsRunFrom key_of image held s moment tasks told closed) → CanSyncOver mid held closed
-can_over key_of None mid held moment tasks told closed untold stays stands run = subst (λ (o : Option Image). CanSyncOver o held closed) (sym (untold refl)) tt
-can_over key_of (Some image) mid held moment tasks told closed untold stays (pool, table, is) run =
+pub can_over : (keying : Keying) (old mid : Option Image) (held : Held) (moment : ℕ) (tasks : List Task) (told : Told) (closed : PlainClosed)
+    → (old ≡ None → mid ≡ None) → Stays old mid → StandsForTold old held
+    → ((image : Image) (s : Standing) → old ≡ Some image → StandsOver image held s → IsRunFrom (lanes_in_turn keying) image held s moment tasks told closed)
+    → CanSyncOver mid held closed
+can_over keying None mid held moment tasks told closed untold stays stands run =
+    subst (λ (o : Option Image). CanSyncOver o held closed) (sym (untold refl)) tt
+can_over keying (Some image) mid held moment tasks told closed untold stays (pool, table, is) run =
     subst (λ (o : Option Image). CanSyncOver o held closed) (sym stays)
-    (run image (record { pool = pool; table = table; blocks = sector_at image }) refl (record { is_held = is; waiting = λ key home is_found none. refl })).can_sync
+    (run image (standing_over image held pool table) refl (stands_as_held image held pool table is)).can_sync
 
-module _ {D : Type 0} (clock : D → ℕ) (left_since : D → ℕ → Image → Type 0) (may_leave : D → Image → Type 0) (seen : D → Option Image) (old new : D) (key_of : List ℕ → Key) (tag group pages : ℕ) (held : Held) (s : Standing)
-    (moment : ℕ) (tasks : List Task) (told : Told) (closed : Group) (ran : HasRunOver key_of (seen old) (may_leave old) group pages tag held s moment tasks told closed) where
-  abbrev after : Standing
-  after = sealed_standing lane_by_lane key_of s (lanes moment tasks) told
+module _ (keying : Keying) (old new : DiskState) (held : Held) (s : Standing) (moment : ℕ) (tasks : List Task) (told : Told) (closed : PlainClosed)
+    (ran : HasRunOver keying old held s moment tasks told closed) where
+  abbrev rules : Rules
+  rules = lanes_in_turn keying
 
-  abbrev Leaves : Image → Type 0
-  Leaves = SyncLeaves ran.over.image held closed s.pool s.table
+  abbrev after : List ℕ → Standing
+  after pages = sealed_standing rules s (lanes moment tasks) told pages
+
+  abbrev Leaves : List ℕ → Image → Type 0
+  Leaves pages = SyncLeaves ran.over.image held closed s pages
+
+  abbrev stood : StandsOver ran.over.image held s
+  stood = ran.over.stands
+
+  -- what a sync leaves of the group holds what stands after the run
+  after_holds : (pages : List ℕ) (c : Image) → KeepsNamed held ran.over.image c → Holds held.tag c (standing_with ran.over.image held closed pages)
+      → Holds keying.tag c (after pages)
+  after_holds pages c only holds =
+      subst (λ t. Holds t c (after pages)) ran.tag_is
+      (moved held.tag c (standing_with ran.over.image held closed pages) (after pages) (ran.run.pool_is ran.no_clash) ran.run.table_is stood.sectors refl
+      (waits_later ran.over.image c held (after pages) ran.run.waiting only) holds)
+
+  before_holds : (c : Image) → Holds held.tag c s → Holds keying.tag c s
+  before_holds c holds = subst (λ t. Holds t c s) ran.tag_is holds
 
   -- a crash leaves what stood, or what the run leaves
-  either : (c : Image) → Leaves c → Holds tag c s ⊎ Holds tag c after
-  either c leaves =
-      ⊎_elim (λ before. inl (subst (λ t. StandsFor t c s.pool s.table) ran.tag_is before))
-      (λ then. inr (subst (λ t. StandsFor t c after.pool after.table) ran.tag_is (subst (λ t. StandsFor held.tag c after.pool t) ran.run.table_is (subst (λ p. StandsFor held.tag c p (table_after held closed)) (ran.run.pool_is ran.no_clash) then))))
-      leaves.stands
+  either : (pages : List ℕ) (c : Image) → Leaves pages c → Holds keying.tag c s ⊎ Holds keying.tag c (after pages)
+  either pages c leaves =
+      ⊎_elim (λ before. inl (before_holds c before)) (λ then. inr (after_holds pages c leaves.only then)) leaves.stands
 
-  any : (c : Image) → Leaves c → AnyStands (Holds tag c) (s ∷ after ∷ [])
-  any c leaves = ⊎_elim (λ before. inl before) (λ then. inr (inl then)) (either c leaves)
+  any : (pages : List ℕ) (c : Image) → Leaves pages c → AnyStands (Holds keying.tag c) (s ∷ after pages ∷ [])
+  any pages c leaves = ⊎_elim (λ before. inl before) (λ then. inr (inl then)) (either pages c leaves)
 
-  while_syncing : LeavesOnly clock left_since old new Leaves → LeavesOnly clock left_since old new (λ c. AnyStands (Holds tag c) (s ∷ after ∷ []))
-  while_syncing run = weakened clock left_since old new Leaves (λ c. AnyStands (Holds tag c) (s ∷ after ∷ [])) run any
+  while_syncing : (pages : List ℕ) → LeavesOnly old new (Leaves pages)
+      → LeavesOnly old new (λ c. AnyStands (Holds keying.tag c) (s ∷ after pages ∷ []))
+  while_syncing pages run = weakened (λ c. AnyStands (Holds keying.tag c) (s ∷ after pages ∷ [])) run (any pages)
+
+  -- there was room, and the image has the pages of its pool
+  has_room : (pages : List ℕ) → length pages ≡ pages_of (records_after held closed)
+      → HasFlatRoom s (lanes moment tasks) Sealed (given_by rules s (lanes moment tasks) told) (after pages)
+  has_room pages count = record {
+    outcome_is = ap (λ (o : Option Outcome). unwrap_or o Sealed) (sym ran.room ∙ same_lacking ran.over.image held s tasks stood);
+    fresh = ran.run.fresh;
+    pages = λ sealed.
+        count ∙ sealed_pages ran.over.image held closed
+        ∙ ap (λ (p : Pool). image_pages p (table_after held closed)) (ran.run.pool_is ran.no_clash)
+        ∙ ap (λ (t : TableState). image_pages (after pages).pool t) ran.run.table_is;
+  }
 
   -- the group was sealed
-  pub sealed_now : (noted : Told) (next : Held) → noted ≡ record told { outcome = Sealed } → LeavesOnly clock left_since old new Leaves → ((since : ℕ) (c : Image) → since ≤ clock new → may_leave new c → left_since new since c)
-      → Syncs (seen old) held closed next (seen new) → NothingPending (seen new) (may_leave new) → length next.pages ≡ pages_of (records_after held closed)
-      → GroupEnded clock left_since may_leave seen old new held.sectors group pages key_of tag s (lanes moment tasks) noted next
-  sealed_now noted next is run counted synced quiet pages_are =
-      subst (λ (t : Told). GroupEnded clock left_since may_leave seen old new held.sectors group pages key_of tag s (lanes moment tasks) t next) (sym is) (record {
-        note = record {
-          number = ran.number ∙ ap (λ n. n + 1) ran.over.stands.is_held.group_is;
+  pub sealed_now : (noted : Told) (next : Held) → noted ≡ record told { outcome = Sealed } → IsDisk new
+      → (pages : List ℕ) → length pages ≡ pages_of (records_after held closed) → pages ≡ next.pages → LeavesOnly old new (Leaves pages)
+      → Syncs old.seen held closed next new.seen → NothingPending new.seen new.may_leave
+      → GroupEnded old new rules s (lanes moment tasks) noted next
+  sealed_now noted next is here pages count same run synced quiet =
+      subst (λ (t : Told). GroupEnded old new rules s (lanes moment tasks) t next) (sym is) (record {
+        after = after pages;
+        ended = record {
+          number = ran.number ∙ ap (λ n. n + 1) stood.is_held.group_is;
           kind = ran.kind;
-          room_is = room_of ran.over.image held s ran.over.stands.is_held group pages moment tasks None _ ran.over.pages_are ran.room ran.run.fresh;
-          did = (ran.taken, record { lanes = ran.run.answers.lanes; agrees = ran.run.answers.agrees });
+          did = (ran.taken, record { lanes = ran.run.answers.lanes; agrees = ran.run.answers.agrees }, refl);
+          room_is = has_room pages count;
         };
-        over = over_later ran.over.image (seen old) (seen new) (may_leave new) held next closed s.pool s.table after group pages ran.over.told synced quiet (at_end clock left_since old new Leaves (may_leave new) run counted)
-            (ran.run.pool_is ran.no_clash) ran.run.table_is ran.run.waiting pages_are (omega (arith, ran.later));
-        others = λ all among content apart. clash_kept key_of s moment tasks told all among ran.run.waiting_stays content apart;
-        crash = while_syncing run;
+        over = record {
+          image = there.0;
+          told = there.1;
+          quiet = still;
+          stands = moved_over there.0 next (standing_with ran.over.image held closed next.pages) (after pages)
+              (ran.run.pool_is ran.no_clash) ran.run.table_is stood.sectors (sym same)
+              (waits_later ran.over.image there.0 held (after pages) ran.run.waiting there.2.only) there.2.stands;
+        };
+        others = λ all among content apart. clash_kept keying s told pages moment tasks all among ran.run.waiting_stays content apart;
+        crash = while_syncing pages run;
       })
+    where
+      there : (c : Image) × (new.seen ≡ Some c) × IsSynced ran.over.image held closed next c
+      there = subst (λ (o : Option Image). Syncs o held closed next new.seen) ran.over.told synced
 
-  -- the note of a group that was cut has its lanes, so its sync may have been begun
-  began : begun lane_by_lane key_of (lanes moment tasks ∷ []) (record told { outcome = Cut } ∷ []) s ≡ after ∷ []
-  began = begun_cut lane_by_lane key_of s (lanes moment tasks) Lanes (record told { outcome = Cut }) refl (has_lanes moment tasks (record told { outcome = Cut }) ran.run.answers.lanes.lanes) refl
+      still : NothingPending (Some there.0) new.may_leave
+      still = subst (λ (o : Option Image). NothingPending o new.may_leave) there.1 quiet
+
+  -- it stands where it stood
+  still_at : (failed : Bool) (rest : List Standing) (c : Image) → old.may_leave c → StandsAt (Holds keying.tag c) failed s.pool.group (s ∷ rest)
+  still_at failed rest c left =
+      inl (refl, inl (subst (λ (d : Image). Holds keying.tag d s) (sym (ran.over.quiet.1 c left)) (before_holds ran.over.image (holds_over ran.over.image held s stood))))
+
+  -- what a crash leaves at return after a fault
+  module _ (pages : List ℕ) (here : IsDisk new) (run : LeavesOnly old new (Leaves pages)) where
+    at_return : (fault : SyncFault) → (fault ≡ syncs.WriteFault → LeavesOnly old new (BeforeGate ran.over.image held s))
+        → (fault ≡ syncs.Memory → (c : Image) → new.may_leave c → old.may_leave c)
+        → ((sector : ℕ) → fault ≡ syncs.Damaged sector → (c : Image) → new.may_leave c → old.may_leave c)
+        → (fault ≡ syncs.ReadFault → (c : Image) → new.may_leave c → old.may_leave c)
+        → (c : Image) → new.may_leave c → StandsAt (Holds keying.tag c) (is_write_fault (status_of fault)) s.pool.group (s ∷ after pages ∷ [])
+    at_return syncs.ReadFault before unwritten damaged unread c left = still_at false (after pages ∷ []) c (unread refl c left)
+    at_return syncs.Memory before unwritten damaged unread c left = still_at false (after pages ∷ []) c (unwritten refl c left)
+    at_return (syncs.Damaged sector) before unwritten damaged unread c left = still_at false (after pages ∷ []) c (damaged sector refl c left)
+    at_return syncs.WriteFault before unwritten damaged unread c left =
+        inl (refl, inl (before_holds c (at_end (before refl) here c left).stands))
+    at_return syncs.GateFault before unwritten damaged unread c left =
+        ⊎_elim (λ was. inl (refl, inl was)) (λ then. inl (refl, inr (refl, then))) (either pages c (at_end run here c left))
 
   -- the sync failed
-  pub cut_now : (noted : Told) (fault : SyncFault) (result : Result ℕ SyncFault) → result ≡ Err fault → noted ≡ record told { outcome = Cut } → LeavesOnly clock left_since old new Leaves
-      → ((since : ℕ) (c : Image) → since ≤ clock new → may_leave new c → left_since new since c)
-      → (IsErrOf result syncs.Memory → new ≡ old) → ((sector : ℕ) → IsErrOf result (syncs.Damaged sector) → (new ≡ old) × (seen old ≡ None)) → (IsErrOf result syncs.ReadFault → (c : Image) → may_leave new c → may_leave old c)
-      → GroupCut clock left_since may_leave old new held.sectors group pages key_of tag s (lanes moment tasks) noted (status_by fault)
-  cut_now noted fault result failed is run counted unwritten damaged unread =
-      subst (λ (t : Told). GroupCut clock left_since may_leave old new held.sectors group pages key_of tag s (lanes moment tasks) t (status_by fault)) (sym is) (record {
-        note = record {
-          number = ran.number ∙ ap (λ n. n + 1) ran.over.stands.is_held.group_is;
+  pub cut_now : (noted : Told) (fault : SyncFault) → noted ≡ record told { outcome = Cut } → IsDisk new
+      → (pages : List ℕ) → length pages ≡ pages_of (records_after held closed) → LeavesOnly old new (Leaves pages)
+      → (fault ≡ syncs.WriteFault → LeavesOnly old new (BeforeGate ran.over.image held s))
+      → (fault ≡ syncs.Memory → (c : Image) → new.may_leave c → old.may_leave c)
+      → ((sector : ℕ) → fault ≡ syncs.Damaged sector → (c : Image) → new.may_leave c → old.may_leave c)
+      → (fault ≡ syncs.ReadFault → (c : Image) → new.may_leave c → old.may_leave c)
+      → GroupCut old new rules s (lanes moment tasks) noted (status_of fault)
+  cut_now noted fault is here pages count run before unwritten damaged unread =
+      subst (λ (t : Told). GroupCut old new rules s (lanes moment tasks) t (status_of fault)) (sym is) (record {
+        after = after pages;
+        cut = record {
+          number = ran.number ∙ ap (λ n. n + 1) stood.is_held.group_is;
           kind = ran.kind;
           outcome = refl;
           taken = ran.taken;
-          did = inr (record { lanes = ran.run.answers.lanes; agrees = ran.run.answers.agrees }, room_of ran.over.image held s ran.over.stands.is_held group pages moment tasks None _ ran.over.pages_are ran.room ran.run.fresh);
+          after_is = refl;
+          did = inr (record { lanes = ran.run.answers.lanes; agrees = ran.run.answers.agrees }, has_room pages count);
         };
-        crash = subst (λ (stands : List Standing). LeavesOnly clock left_since old new (λ c. AnyStands (Holds tag c) (s ∷ stands))) (sym began) (while_syncing run);
-        at_return = λ c left. subst (λ (stands : List Standing). StandsAt (Holds tag c) (is_write_fault (status_by fault)) s.pool.group (s ∷ stands)) (sym began) (at_return fault result failed unwritten damaged unread c left);
+        crash = subst (λ (stands : List Standing). LeavesOnly old new (λ c. AnyStands (Holds keying.tag c) (s ∷ stands))) (sym began) (while_syncing pages run);
+        at_return = λ c left.
+            subst (λ (stands : List Standing). StandsAt (Holds keying.tag c) (is_write_fault (status_of fault)) s.pool.group (s ∷ stands)) (sym began)
+            (at_return pages here run fault before unwritten damaged unread c left);
       })
     where
-      stood : (failed : Bool) (c : Image) → may_leave old c → StandsAt (Holds tag c) failed s.pool.group (s ∷ after ∷ [])
-      stood failed c left = inl (refl, inl (holds_now clock left_since may_leave seen old tag (pages_since group pages s) held s ran.over ran.tag_is c left))
-
-      at_return : (fault : SyncFault) (result : Result ℕ SyncFault) → result ≡ Err fault
-          → (IsErrOf result syncs.Memory → new ≡ old) → ((sector : ℕ) → IsErrOf result (syncs.Damaged sector) → (new ≡ old) × (seen old ≡ None)) → (IsErrOf result syncs.ReadFault → (c : Image) → may_leave new c → may_leave old c)
-          → (c : Image) → may_leave new c → StandsAt (Holds tag c) (is_write_fault (status_by fault)) s.pool.group (s ∷ after ∷ [])
-      at_return syncs.ReadFault result failed unwritten damaged unread c left = stood false c (unread (subst (λ r. IsErrOf r syncs.ReadFault) (sym failed) refl) c left)
-      at_return syncs.Memory result failed unwritten damaged unread c left =
-          stood false c (subst (λ (d : D). may_leave d c) (unwritten (subst (λ r. IsErrOf r syncs.Memory) (sym failed) refl)) left)
-      at_return (syncs.Damaged sector) result failed unwritten damaged unread c left =
-          stood false c (subst (λ (d : D). may_leave d c) (damaged sector (subst (λ r. IsErrOf r (syncs.Damaged sector)) (sym failed) refl)).0 left)
-      at_return syncs.WriteFault result failed unwritten damaged unread c left =
-          ⊎_elim (λ before. inl (refl, inl before)) (λ then. inl (refl, inr (refl, then))) (either c (at_end clock left_since old new Leaves (may_leave new) run counted c left))
+      began : begun_by (group_step s (lanes moment tasks) (record told { outcome = Cut }) (after pages)) ≡ after pages ∷ []
+      began = begun_cut s (after pages) moment tasks told (has_lanes moment tasks told ran.run.answers.lanes.lanes)

@@ -49,5 +49,6 @@ fault_text (LastGroup group) = codes "last group: " ++ decimal group
 abbrev pub status_of : SyncFault → Status
 status_of syncs.ReadFault = ReadFault
 status_of syncs.WriteFault = WriteFault
+status_of syncs.GateFault = WriteFault
 status_of (syncs.Damaged sector) = Damaged sector
 status_of syncs.Memory = OutOfMemory

@@ -2,9 +2,8 @@
 
 ghost use Rattle.std.specs.Prelude.{◌≡◌, ◌≤◌, ℕ, Some, IfOk, IsErrOf};
 ghost use Rattle.disk_model.specs.Images.{Image};
-ghost use Rattle.disk_model.specs.Crashes.{NothingPending};
-ghost use Rattle.session.specs.Entries.{IsOnDisk};
-ghost use Rattle.session.specs.Finding.{Finds, FindCause, IsLeft};
+ghost use Rattle.session.specs.StageEntries.{IsOnDisk};
+ghost use Rattle.session.specs.StageFinding.{Finds, FindCause, IsLeft};
 ghost use Rattle.session.specs.declared.status.Status.{Status};
 
 use crate::status::{Status, told};
@@ -20,15 +19,13 @@ pub(crate) fn find_pool<D: Disk, K: KeyOf>(
     disk: &mut D,
     keyer: &K,
 ) -> Result<Pool, Status>
-    ensures sectors { D.sectors_of disk.new ≡ D.sectors_of disk.old }
-    ensures on_disk { IfOk result (IsOnDisk (D.sectors_of disk.new) (D.seen disk.new) (K.tag_of keyer.now)) }
-    ensures left { (image : Image) → D.seen disk.old ≡ Some image → NothingPending (Some image) (D.may_leave disk.old)
-        → IsLeft D.clock D.left_since D.may_leave D.seen disk.old disk.new image }
-    ensures found { (image : Image) → D.seen disk.old ≡ Some image → Finds (D.may_leave disk.new) (K.tag_of keyer.now) image result }
-    ensures cause { (status : Status) → IsErrOf result status → FindCause status (K.tag_of keyer.now) (D.seen disk.old)
-        (D.read_faults disk.old) (D.read_faults disk.new) (D.write_faults disk.old) (D.write_faults disk.new) }
-    ensures reads { D.read_faults disk.old ≤ D.read_faults disk.new }
-    ensures writes { D.write_faults disk.old ≤ D.write_faults disk.new }
+    ensures sectors { (D.state disk.new).sectors ≡ (D.state disk.old).sectors }
+    ensures on_disk { IfOk result (IsOnDisk (D.state disk.new) (K.keying keyer.now).tag) }
+    ensures left { (image : Image) → (D.state disk.old).seen ≡ Some image → IsLeft (D.state disk.old) (D.state disk.new) image }
+    ensures found { (image : Image) → (D.state disk.old).seen ≡ Some image → Finds (D.state disk.new) (K.keying keyer.now).tag image result }
+    ensures cause { (status : Status) → IsErrOf result status → FindCause status (K.keying keyer.now).tag (D.state disk.old) (D.state disk.new) }
+    ensures reads { (D.state disk.old).read_faults ≤ (D.state disk.new).read_faults }
+    ensures writes { (D.state disk.old).write_faults ≤ (D.state disk.new).write_faults }
 {
     let found = import(alloc, disk, keyer);
     crash_laws(disk);

@@ -1,52 +1,39 @@
 //! How a group of an item is done: its lanes run, what they leave is synced, and its text is written.
 
-ghost use Rattle.std.specs.Prelude.{◌≡◌, ◌≤◌, ◌<◌, ◌+◌, ◌-◌, ◌^◌, ◌++◌, ◌∷◌, [], ℕ, List, Some, None, Err, min, map, ◌⊎◌, OnOk, IsOk, IsErrOf};
+ghost use Rattle.std.specs.Prelude.{◌≡◌, ◌≤◌, ◌<◌, ◌+◌, ◌-◌, ◌^◌, ◌++◌, ◌∷◌, [], ℕ, true, List, Some, None, Err, min, map, ◌⊎◌, OnOk, IsOk, IsErrOf};
 ghost use Rattle.cmd_file.specs.Items.{IsItem};
 ghost use Rattle.disk_model.specs.Images.{Image};
 ghost use Rattle.io_model.specs.Outside.{Rose};
-ghost use Rattle.ddt_entry.specs.declared.key.Key.{Key};
 ghost use Rattle.pool_model.specs.declared.notes.Outcome.TheVariants as outcomes;
-ghost use Rattle.pool_model.specs.Group.{Standing};
-ghost use Rattle.pool_model.specs.Plain.{Task, Told, lanes, part_of, task_of, told_of};
-ghost use Rattle.pool_model.specs.Run.{pages_since};
-ghost use Rattle.pool_model.specs.Text.{group_text};
+ghost use Rattle.ddt_entry.specs.Keys.{Keying};
+ghost use Rattle.pool_model.specs.Group.{Standing, lanes_in_turn};
+ghost use Rattle.pool_model.specs.Text.{noted_text};
+ghost use Rattle.pool_model.specs.Plain.{GroupItem, Task, Told, lanes, of_group, part_of, task_of, told_of};
 ghost use Rattle.report.specs.Writes.{Wrote};
 ghost use Rattle.table_state.specs.Sound.{IsSound};
 ghost use Rattle.table_state.specs.SealForms.{last_group};
-ghost use Rattle.txg_sync.specs.Planning.{group_in};
-ghost use Rattle.txg_sync.specs.Syncing.{IsInRange, CanSyncOver};
-ghost use Rattle.session.specs.Entries.{IsOnDisk, IsOver};
-ghost use Rattle.session.specs.Groups.{HasRunOver, GroupWent, outcome_by, refused_by, status_by, outcome_after, new_told, faults_of, ended_by, TellsGroup};
-ghost use Rattle.session.specs.Items.{HasNoClashIn, ItemWent};
-ghost use Rattle.session.specs.Running.{told_in, faults_in, RoseBeyond, WentOn, IsOfItems};
+ghost use Rattle.table_state.specs.Closing.{closed_of, IsInRange, CanSyncOver};
+ghost use Rattle.session.specs.Devices.{between};
+ghost use Rattle.session.specs.Origins.{origin, may_begin};
+ghost use Rattle.session.specs.Running.{told_in, faults_in, RoseBeyond};
+ghost use Rattle.session.specs.StageEntries.{IsOnDisk, IsOver};
+ghost use Rattle.session.specs.StageGroups.{HasRunOver, GroupWent, outcome_by, refused_by, outcome_after, new_told, faults_of, ended_by, TellsGroup};
+ghost use Rattle.session.specs.StageItems.{HasNoClashIn, ItemWent, may_end_item};
 ghost use Rattle.session.specs.declared.status.Status.{Status};
 
-use crate::status::Status;
+use crate::status::{Status, told};
 use ddt_entry::KeyOf;
 use disk_model::{Disk, Failed, crash_laws};
 use io_model::Sink;
 use lane_run::run_group_plain;
 use pool_model::{
-    Bucket, Closed, GroupFault, GroupNote, Item, Kind, LanesGroup, Outcome, Session, Stats,
-    SyncFault,
+    Closed, GroupFault, GroupNote, Item, Kind, LanesGroup, Outcome, Session,
 };
-use report::write_item;
+use report::{NO_STATS, write_item};
 use reserved_list::ReservedList;
 use std::alloc::Global;
 use table_state::{LAST_GROUP, Pool};
 use txg_sync::sync;
-
-/// How a session ends by a fault of a sync or of an import.
-pub(crate) fn status_by(fault: SyncFault) -> Status
-    ensures { result ≡ status_by fault }
-{
-    match fault {
-        SyncFault::ReadFault => Status::ReadFault,
-        SyncFault::WriteFault => Status::WriteFault,
-        SyncFault::Damaged(sector) => Status::Damaged(sector),
-        SyncFault::Memory => Status::OutOfMemory,
-    }
-}
 
 /// Notes a group that wasn't run: the session goes on where it had no room, and ends after any other fault.
 fn refuse(note: &mut GroupNote, fault: GroupFault) -> Result<(), Status>
@@ -76,26 +63,26 @@ fn seal_run<D: Disk>(
     note: &mut GroupNote,
 ) -> Result<(), Status>
     requires sound { IsSound pool.old }
-    requires range { IsInRange pool.old (group_in closed.now) }
+    requires range { IsInRange pool.old (closed_of closed.now) }
     requires last { pool.old.group + 1 ≤ last_group }
-    requires there { pool.old.sectors ≤ D.sectors_of disk.old }
-    requires over { CanSyncOver (D.seen disk.old) pool.old (group_in closed.now) }
+    requires there { pool.old.sectors ≤ (D.state disk.old).sectors }
+    requires over { CanSyncOver (D.state disk.old).seen pool.old (closed_of closed.now) }
     requires cut { note.old.outcome ≡ outcomes.Cut }
-    ensures sectors { D.sectors_of disk.new ≡ D.sectors_of disk.old }
+    ensures sectors { (D.state disk.new).sectors ≡ (D.state disk.old).sectors }
     ensures noted { told_of note.new ≡ record (told_of note.old) { outcome = outcome_after result } }
-    ensures on_disk { (tag : ℕ) → IsOnDisk (D.sectors_of disk.old) (D.seen disk.old) tag pool.old → OnOk result (IsOnDisk (D.sectors_of disk.new) (D.seen disk.new) tag pool.new) }
+    ensures on_disk { (tag : ℕ) → IsOnDisk (D.state disk.old) tag pool.old → OnOk result (IsOnDisk (D.state disk.new) tag pool.new) }
     ensures number { OnOk result (pool.new.group ≡ pool.old.group + 1) }
     ensures size { OnOk result (pool.new.sectors ≡ pool.old.sectors) }
-    ensures went { (key_of : List ℕ → Key) (s : Standing) (group pages tag moment : ℕ) (tasks : List Task)
-        → HasRunOver key_of (D.seen disk.old) (D.may_leave disk.old) group pages tag pool.old s moment tasks (told_of note.old) (group_in closed.now)
-        → GroupWent D.clock D.left_since D.may_leave D.seen disk.old disk.new pool.old.sectors group pages key_of tag s (lanes moment tasks) (told_of note.new) pool.new result }
-    ensures ended { (image : Image) (status : Status) → D.seen disk.old ≡ Some image → IsErrOf result status → WentOn status Unit Unit }
-    ensures devices { (status : Status) → IsErrOf result status → IsOfItems status }
+    ensures went { (keying : Keying) (s : Standing) (moment : ℕ) (tasks : List Task)
+        → HasRunOver keying (D.state disk.old) pool.old s moment tasks (told_of note.old) (closed_of closed.now)
+        → GroupWent (D.state disk.old) (D.state disk.new) (lanes_in_turn keying) s (lanes moment tasks) (told_of note.new) pool.new result }
+    ensures ended { (image : Image) (status : Status) → (D.state disk.old).seen ≡ Some image → IsErrOf result status → may_begin (origin status) ≡ true }
+    ensures devices { (status : Status) → IsErrOf result status → may_end_item (origin status) ≡ true }
     ensures device { IsErrOf result Status.SinkFault → ⊥ }
-    ensures reads { D.read_faults disk.old ≤ D.read_faults disk.new }
-    ensures read_cause { IsErrOf result Status.ReadFault → Rose (D.read_faults disk.old) (D.read_faults disk.new) }
-    ensures writes { D.write_faults disk.old ≤ D.write_faults disk.new }
-    ensures write_cause { IsErrOf result Status.WriteFault → Rose (D.write_faults disk.old) (D.write_faults disk.new) }
+    ensures reads { (D.state disk.old).read_faults ≤ (D.state disk.new).read_faults }
+    ensures read_cause { IsErrOf result Status.ReadFault → Rose (D.state disk.old).read_faults (D.state disk.new).read_faults }
+    ensures writes { (D.state disk.old).write_faults ≤ (D.state disk.new).write_faults }
+    ensures write_cause { IsErrOf result Status.WriteFault → Rose (D.state disk.old).write_faults (D.state disk.new).write_faults }
 {
     crash_laws(disk);
     let sealed = sync(alloc, pool, disk, closed);
@@ -105,7 +92,7 @@ fn seal_run<D: Disk>(
             note.outcome = Outcome::Sealed;
             Ok(())
         }
-        Err(fault) => Err(status_by(fault)),
+        Err(fault) => Err(told(fault)),
     }
 }
 
@@ -119,26 +106,26 @@ fn run_group<D: Disk, K: KeyOf>(
     group: &LanesGroup,
     note: &mut GroupNote,
 ) -> Result<(), Status>
-    requires form { IsItem (lanes group.now.moment (map task_of group.now.commands.items)) }
-    requires on_disk { IsOnDisk (D.sectors_of disk.old) (D.seen disk.old) (K.tag_of keyer.now) pool.old }
+    requires form { IsItem (of_group (lanes group.now.moment (map task_of group.now.commands.items))) }
+    requires on_disk { IsOnDisk (D.state disk.old) (K.keying keyer.now).tag pool.old }
     requires last { pool.old.group + 1 ≤ last_group }
     requires new { told_of note.old ≡ new_told (pool.old.group + 1) outcomes.Cut }
     requires unnoted { note.old.lanes.items ≡ [] }
-    ensures sectors { D.sectors_of disk.new ≡ D.sectors_of disk.old }
-    ensures on_disk { OnOk result (IsOnDisk (D.sectors_of disk.new) (D.seen disk.new) (K.tag_of keyer.now) pool.new) }
+    ensures sectors { (D.state disk.new).sectors ≡ (D.state disk.old).sectors }
+    ensures on_disk { OnOk result (IsOnDisk (D.state disk.new) (K.keying keyer.now).tag pool.new) }
     ensures next { OnOk result (pool.new.group ≤ pool.old.group + 1) }
     ensures size { OnOk result (pool.new.sectors ≡ pool.old.sectors) }
-    ensures went { (s : Standing) (group_then pages : ℕ) → IsOver (D.seen disk.old) (D.may_leave disk.old) (pages_since group_then pages s) pool.old s → group_then ≤ s.pool.group
-        → HasNoClashIn (K.key_of keyer.now) s (lanes group.now.moment (map task_of group.now.commands.items))
-        → GroupWent D.clock D.left_since D.may_leave D.seen disk.old disk.new pool.old.sectors group_then pages (K.key_of keyer.now) (K.tag_of keyer.now) s
+    ensures went { (s : Standing) → IsOver (D.state disk.old) pool.old s
+        → HasNoClashIn (K.keying keyer.now).key_of s (of_group (lanes group.now.moment (map task_of group.now.commands.items)))
+        → GroupWent (D.state disk.old) (D.state disk.new) (lanes_in_turn (K.keying keyer.now)) s
         (lanes group.now.moment (map task_of group.now.commands.items)) (told_of note.new) pool.new result }
-    ensures ended { (image : Image) (status : Status) → D.seen disk.old ≡ Some image → IsErrOf result status → WentOn status Unit Unit }
-    ensures devices { (status : Status) → IsErrOf result status → IsOfItems status }
+    ensures ended { (image : Image) (status : Status) → (D.state disk.old).seen ≡ Some image → IsErrOf result status → may_begin (origin status) ≡ true }
+    ensures devices { (status : Status) → IsErrOf result status → may_end_item (origin status) ≡ true }
     ensures device { IsErrOf result Status.SinkFault → ⊥ }
-    ensures reads { min (D.read_faults disk.old + faults_of (told_of note.new)) (2 ^ 64 - 1) ≤ D.read_faults disk.new }
-    ensures read_cause { IsErrOf result Status.ReadFault → RoseBeyond (faults_of (told_of note.new)) (D.read_faults disk.old) (D.read_faults disk.new) }
-    ensures writes { D.write_faults disk.old ≤ D.write_faults disk.new }
-    ensures write_cause { IsErrOf result Status.WriteFault → Rose (D.write_faults disk.old) (D.write_faults disk.new) }
+    ensures reads { min ((D.state disk.old).read_faults + faults_of (told_of note.new)) (2 ^ 64 - 1) ≤ (D.state disk.new).read_faults }
+    ensures read_cause { IsErrOf result Status.ReadFault → RoseBeyond (faults_of (told_of note.new)) (D.state disk.old).read_faults (D.state disk.new).read_faults }
+    ensures writes { (D.state disk.old).write_faults ≤ (D.state disk.new).write_faults }
+    ensures write_cause { IsErrOf result Status.WriteFault → Rose (D.state disk.old).write_faults (D.state disk.new).write_faults }
 {
     crash_laws(disk);
     match run_group_plain(alloc, pool, disk, keyer, group, note) {
@@ -146,24 +133,6 @@ fn run_group<D: Disk, K: KeyOf>(
         Err(fault) => refuse(note, fault),
     }
 }
-
-/// No statistics, for the text of an item that tells none.
-pub(crate) const NO_STATS: Stats = Stats {
-    keys: 0,
-    unique: 0,
-    duplicate: 0,
-    refs: 0,
-    loose: 0,
-    plain: 0,
-    allocated: 0,
-    referenced: 0,
-    buckets: [Bucket {
-        low: 0,
-        keys: 0,
-        allocated: 0,
-        referenced: 0,
-    }; 21],
-};
 
 /// Puts a group's note behind the session's, for which there is room.
 fn keep_note(session: &mut Session, note: GroupNote)
@@ -188,7 +157,10 @@ fn tell_group<W: Sink>(
     ensures room { session.old.groups.spare ≡ session.new.groups.spare + 1 }
     ensures sealed { session.new.sealed ≡ session.old.sealed }
     ensures faults { faults_in session.new ≡ faults_in session.old + faults_of (told_of note) }
-    ensures wrote { Wrote (W.written out.old) (W.written out.new) (W.faults out.old) (W.faults out.new) (group_text (part_of item.now) (told_of note) note.outcome) result }
+    ensures wrote { (part : GroupItem) → part_of item.now ≡ of_group part
+        → Wrote (W.written out.old) (W.written out.new) (W.faults out.old) (W.faults out.new) (noted_text part (Some (told_of note))) result }
+    ensures sink { W.faults out.old ≤ W.faults out.new }
+    ensures sink_cause { IsErrOf result Status.SinkFault → Rose (W.faults out.old) (W.faults out.new) }
     ensures status { (status : Status) → IsErrOf result status → status ≡ Status.SinkFault }
 {
     let wrote = tell(write_item(out, item, Some(&note), &NO_STATS, 0, None));
@@ -219,8 +191,9 @@ fn end_group<W: Sink>(
     ensures noted { told_in session.new ≡ told_in session.old ++ told_of note ∷ [] }
     ensures room { session.old.groups.spare ≡ session.new.groups.spare + 1 }
     ensures faults { faults_in session.new ≡ faults_in session.old + faults_of (told_of note) }
-    ensures told { TellsGroup ended sealed session.old.sealed session.new.sealed (W.written out.old) (W.written out.new) (W.faults out.old) (W.faults out.new)
-        (group_text (part_of item.now) (told_of note) note.outcome) result }
+    ensures told { (part : GroupItem) → part_of item.now ≡ of_group part → TellsGroup ended sealed session.old.sealed session.new.sealed
+        (Wrote (W.written out.old) (W.written out.new) (W.faults out.old) (W.faults out.new) (noted_text part (Some (told_of note))) result)
+        (W.written out.new ≡ W.written out.old) result }
     ensures sealed { OnOk result (session.new.sealed ≡ sealed) }
     ensures failed { (status : Status) → IsErrOf result status → IsErrOf ended status ⊎ (status ≡ Status.SinkFault) }
     ensures ended { OnOk result (IsOk ended) }
@@ -250,31 +223,30 @@ pub(crate) fn do_group<D: Disk, W: Sink, K: KeyOf>(
     group: &LanesGroup,
     session: &mut Session,
 ) -> Result<(), Status>
-    requires is { part_of item.now ≡ lanes group.now.moment (map task_of group.now.commands.items) }
+    requires is { part_of item.now ≡ of_group (lanes group.now.moment (map task_of group.now.commands.items)) }
     requires form { IsItem (part_of item.now) }
     requires room { 0 < session.old.groups.spare }
-    requires on_disk { IsOnDisk (D.sectors_of disk.old) (D.seen disk.old) (K.tag_of keyer.now) pool.old }
-    requires last { (image : Image) → D.seen disk.old ≡ Some image → pool.old.group + 1 ≤ last_group }
+    requires on_disk { IsOnDisk (D.state disk.old) (K.keying keyer.now).tag pool.old }
+    requires last { (image : Image) → (D.state disk.old).seen ≡ Some image → pool.old.group + 1 ≤ last_group }
     requires sealed { session.old.sealed ≡ pool.old.group }
-    ensures sectors { D.sectors_of disk.new ≡ D.sectors_of disk.old }
-    ensures on_disk { OnOk result (IsOnDisk (D.sectors_of disk.new) (D.seen disk.new) (K.tag_of keyer.now) pool.new) }
+    ensures sectors { (D.state disk.new).sectors ≡ (D.state disk.old).sectors }
+    ensures on_disk { OnOk result (IsOnDisk (D.state disk.new) (K.keying keyer.now).tag pool.new) }
     ensures next { OnOk result (pool.new.group ≤ pool.old.group + 1) }
     ensures size { OnOk result (pool.new.sectors ≡ pool.old.sectors) }
     ensures sealed { OnOk result (session.new.sealed ≡ pool.new.group) }
     ensures noted { (notes : List Told) × (told_in session.new ≡ told_in session.old ++ notes) }
     ensures room { session.old.groups.spare ≤ session.new.groups.spare + 1 }
-    ensures went { (s : Standing) (group_then pages : ℕ) → IsOver (D.seen disk.old) (D.may_leave disk.old) (pages_since group_then pages s) pool.old s → group_then ≤ s.pool.group
-        → HasNoClashIn (K.key_of keyer.now) s (part_of item.now)
+    ensures went { (s : Standing) → IsOver (D.state disk.old) pool.old s → HasNoClashIn (K.keying keyer.now).key_of s (part_of item.now)
         → (notes : List Told) × (told_in session.new ≡ told_in session.old ++ notes)
-        × ItemWent D.clock D.left_since D.may_leave D.seen disk.old disk.new pool.old.sectors group_then pages (K.key_of keyer.now) (K.tag_of keyer.now) s (part_of item.now) notes
-        pool.new session.new.sealed (W.written out.old) (W.written out.new) result }
-    ensures ended { (image : Image) (status : Status) → D.seen disk.old ≡ Some image → IsErrOf result status → WentOn status Unit Unit }
-    ensures devices { (status : Status) → IsErrOf result status → IsOfItems status }
+        × ItemWent (between (D.state disk.old) (D.state disk.new) (W.written out.old) (W.written out.new) (W.faults out.old) (W.faults out.new))
+        (lanes_in_turn (K.keying keyer.now)) s (part_of item.now) notes pool.new session.new.sealed result }
+    ensures ended { (image : Image) (status : Status) → (D.state disk.old).seen ≡ Some image → IsErrOf result status → may_begin (origin status) ≡ true }
+    ensures devices { (status : Status) → IsErrOf result status → may_end_item (origin status) ≡ true }
     ensures faults { faults_in session.old ≤ faults_in session.new }
-    ensures reads { min (D.read_faults disk.old + (faults_in session.new - faults_in session.old)) (2 ^ 64 - 1) ≤ D.read_faults disk.new }
-    ensures read_cause { IsErrOf result Status.ReadFault → RoseBeyond (faults_in session.new - faults_in session.old) (D.read_faults disk.old) (D.read_faults disk.new) }
-    ensures writes { D.write_faults disk.old ≤ D.write_faults disk.new }
-    ensures write_cause { IsErrOf result Status.WriteFault → Rose (D.write_faults disk.old) (D.write_faults disk.new) }
+    ensures reads { min ((D.state disk.old).read_faults + (faults_in session.new - faults_in session.old)) (2 ^ 64 - 1) ≤ (D.state disk.new).read_faults }
+    ensures read_cause { IsErrOf result Status.ReadFault → RoseBeyond (faults_in session.new - faults_in session.old) (D.state disk.old).read_faults (D.state disk.new).read_faults }
+    ensures writes { (D.state disk.old).write_faults ≤ (D.state disk.new).write_faults }
+    ensures write_cause { IsErrOf result Status.WriteFault → Rose (D.state disk.old).write_faults (D.state disk.new).write_faults }
     ensures sink { W.faults out.old ≤ W.faults out.new }
     ensures sink_cause { IsErrOf result Status.SinkFault → Rose (W.faults out.old) (W.faults out.new) }
 {

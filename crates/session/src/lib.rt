@@ -10,7 +10,7 @@
 //! The pool is opened first (`opening`): imported (`finding`), or made where there is none (`making`). Then
 //! the items are done one after another (`running`), each by `item`: a group (`group_item`) runs over the
 //! pool in memory, is synced, and only then reported; a `stat` or an `import` is a `plain_item`. Proofs go the
-//! same way: `specs/Items.antt` says what one item comes to, `specs/Going.antt` what the items so far have,
+//! same way: `specs/StageItems.antt` says what one item comes to, `specs/StageGoing.antt` what the items so far have,
 //! and `specs/Stopping.antt` where a session ended that didn't do them all. Nothing here speaks of pages or bytes
 //! of the image: that is `txg_sync`'s and `pool_import`'s.
 #![tactic(auto)]

@@ -2,7 +2,6 @@
 
 ghost use Rattle.std.specs.Prelude.{◌≡◌, ◌≤◌, ◌↔◌, ℕ, Some, None, map, string_bytes};
 ghost use Rattle.disk_model.specs.Images.{Image};
-ghost use Rattle.disk_model.specs.Crashes.{NothingPending};
 ghost use Rattle.pool_model.specs.Pool.{Pool as PoolModel};
 ghost use Rattle.pool_model.specs.Plain.{part_of};
 ghost use Rattle.pool_model.specs.Table.{TableState};
@@ -10,8 +9,12 @@ ghost use Rattle.pool_model.specs.Stats.{stats_of};
 ghost use Rattle.pool_model.specs.Text.{stat_text};
 ghost use Rattle.table_state.specs.Pools.{IsHeld};
 ghost use Rattle.table_state.specs.Sound.{IsSound};
-ghost use Rattle.report.specs.ItemText.{bare_text};
-ghost use Rattle.session.specs.Looking.{Creates, Tells, LookCause, WritesSo, WriteCause, WriteStatsCause};
+ghost use Rattle.report.specs.ItemText.{text_of};
+ghost use Rattle.session.specs.Devices.{between};
+ghost use Rattle.session.specs.Entries.{IsLawfulSize};
+ghost use Rattle.session.specs.Looking.{Creates, Tells, LookCause};
+ghost use Rattle.session.specs.Running.{SizedSo};
+ghost use Rattle.session.specs.StageWriting.{WritesSo, WriteCause, WriteStatsCause};
 ghost use Rattle.session.specs.Words.{looking_words};
 ghost use Rattle.session.specs.declared.words.Look.{Look};
 ghost use Rattle.session.specs.declared.status.Status.{Status};
@@ -24,8 +27,8 @@ use ddt_entry::KeyOf;
 use disk_model::Disk;
 use held_stats::stats_of_pool;
 use io_model::Sink;
-use pool_model::{BUCKETS, Bucket, Item, Stats};
-use report::write_item;
+use pool_model::{Item, Stats};
+use report::{NO_STATS, write_item};
 use std::alloc::Global;
 use table_state::Pool;
 
@@ -38,44 +41,27 @@ pub fn inspect<D: Disk, W: Sink, K: KeyOf>(
     out: &mut W,
     keyer: &K,
 ) -> Status
-    ensures sectors { D.sectors_of disk.new ≡ D.sectors_of disk.old }
+    ensures sectors { (D.state disk.new).sectors ≡ (D.state disk.old).sectors }
     ensures usage { (result ≡ Status.Usage) ↔ (looking_words (map string_bytes words.now) ≡ None) }
     ensures unused { result ≡ Status.Usage → (disk.new ≡ disk.old) × (out.new ≡ out.old) }
-    ensures created { (image : Image) → D.seen disk.old ≡ Some image → NothingPending (Some image) (D.may_leave disk.old) → looking_words (map string_bytes words.now) ≡ Some Look.Create
-        → Creates D.clock D.left_since D.may_leave D.seen disk.old disk.new (K.tag_of keyer.now) image (W.written out.old) (W.written out.new) result }
-    ensures told { (image : Image) → D.seen disk.old ≡ Some image → NothingPending (Some image) (D.may_leave disk.old) → looking_words (map string_bytes words.now) ≡ Some Look.Stat
-        → Tells D.clock D.left_since D.may_leave D.seen disk.old disk.new (K.tag_of keyer.now) image (W.written out.old) (W.written out.new) result }
-    ensures cause { (look : Look) → looking_words (map string_bytes words.now) ≡ Some look → LookCause result look (K.tag_of keyer.now) (D.sectors_of disk.old) (D.seen disk.old)
-        (D.read_faults disk.old) (D.read_faults disk.new) (D.write_faults disk.old) (D.write_faults disk.new) (W.faults out.old) (W.faults out.new) }
-    ensures reads { D.read_faults disk.old ≤ D.read_faults disk.new }
-    ensures writes { D.write_faults disk.old ≤ D.write_faults disk.new }
+    ensures created { (image : Image) → (D.state disk.old).seen ≡ Some image → looking_words (map string_bytes words.now) ≡ Some Look.Create
+        → Creates (between (D.state disk.old) (D.state disk.new) (W.written out.old) (W.written out.new) (W.faults out.old) (W.faults out.new))
+        (K.keying keyer.now).tag image result }
+    ensures told { (image : Image) → (D.state disk.old).seen ≡ Some image → looking_words (map string_bytes words.now) ≡ Some Look.Stat
+        → Tells (between (D.state disk.old) (D.state disk.new) (W.written out.old) (W.written out.new) (W.faults out.old) (W.faults out.new))
+        (K.keying keyer.now).tag image result }
+    ensures cause { (look : Look) → looking_words (map string_bytes words.now) ≡ Some look → LookCause result look (K.keying keyer.now).tag
+        (between (D.state disk.old) (D.state disk.new) (W.written out.old) (W.written out.new) (W.faults out.old) (W.faults out.new)) }
+    ensures sized { looking_words (map string_bytes words.now) ≡ Some Look.Create → (IsLawfulSize (D.state disk.old).sectors → ⊥)
+        → SizedSo result ((disk.new ≡ disk.old) × (out.new ≡ out.old)) }
+    ensures reads { (D.state disk.old).read_faults ≤ (D.state disk.new).read_faults }
+    ensures writes { (D.state disk.old).write_faults ≤ (D.state disk.new).write_faults }
     ensures sink { W.faults out.old ≤ W.faults out.new }
 {
     match looking_words(words) {
         None => Status::Usage,
         Some(Look::Create) => create_pool(alloc, disk, out, keyer),
         Some(Look::Stat) => tell_pool(alloc, disk, out, keyer),
-    }
-}
-
-/// No statistics: a created pool is told without them.
-fn no_stats() -> Stats {
-    let bucket = Bucket {
-        low: 0,
-        keys: 0,
-        allocated: 0,
-        referenced: 0,
-    };
-    Stats {
-        keys: 0,
-        unique: 0,
-        duplicate: 0,
-        refs: 0,
-        loose: 0,
-        plain: 0,
-        allocated: 0,
-        referenced: 0,
-        buckets: [bucket; BUCKETS],
     }
 }
 
@@ -86,17 +72,19 @@ fn create_pool<D: Disk, W: Sink, K: KeyOf>(
     out: &mut W,
     keyer: &K,
 ) -> Status
-    ensures sectors { D.sectors_of disk.new ≡ D.sectors_of disk.old }
-    ensures created { (image : Image) → D.seen disk.old ≡ Some image → NothingPending (Some image) (D.may_leave disk.old)
-        → Creates D.clock D.left_since D.may_leave D.seen disk.old disk.new (K.tag_of keyer.now) image (W.written out.old) (W.written out.new) result }
-    ensures cause { LookCause result Look.Create (K.tag_of keyer.now) (D.sectors_of disk.old) (D.seen disk.old)
-        (D.read_faults disk.old) (D.read_faults disk.new) (D.write_faults disk.old) (D.write_faults disk.new) (W.faults out.old) (W.faults out.new) }
-    ensures reads { D.read_faults disk.old ≤ D.read_faults disk.new }
-    ensures writes { D.write_faults disk.old ≤ D.write_faults disk.new }
+    ensures sectors { (D.state disk.new).sectors ≡ (D.state disk.old).sectors }
+    ensures created { (image : Image) → (D.state disk.old).seen ≡ Some image
+        → Creates (between (D.state disk.old) (D.state disk.new) (W.written out.old) (W.written out.new) (W.faults out.old) (W.faults out.new))
+        (K.keying keyer.now).tag image result }
+    ensures cause { LookCause result Look.Create (K.keying keyer.now).tag
+        (between (D.state disk.old) (D.state disk.new) (W.written out.old) (W.written out.new) (W.faults out.old) (W.faults out.new)) }
+    ensures sized { (IsLawfulSize (D.state disk.old).sectors → ⊥) → SizedSo result ((disk.new ≡ disk.old) × (out.new ≡ out.old)) }
+    ensures reads { (D.state disk.old).read_faults ≤ (D.state disk.new).read_faults }
+    ensures writes { (D.state disk.old).write_faults ≤ (D.state disk.new).write_faults }
     ensures sink { W.faults out.old ≤ W.faults out.new }
 {
     match make_pool(alloc, disk, keyer.tag()) {
-        Ok(_pool) => write_text(out, &Item::Create, &no_stats(), 1, None),
+        Ok(_pool) => write_text(out, &Item::Create, &NO_STATS, 1, None),
         Err(status) => status,
     }
 }
@@ -108,13 +96,14 @@ fn tell_pool<D: Disk, W: Sink, K: KeyOf>(
     out: &mut W,
     keyer: &K,
 ) -> Status
-    ensures sectors { D.sectors_of disk.new ≡ D.sectors_of disk.old }
-    ensures told { (image : Image) → D.seen disk.old ≡ Some image → NothingPending (Some image) (D.may_leave disk.old)
-        → Tells D.clock D.left_since D.may_leave D.seen disk.old disk.new (K.tag_of keyer.now) image (W.written out.old) (W.written out.new) result }
-    ensures cause { LookCause result Look.Stat (K.tag_of keyer.now) (D.sectors_of disk.old) (D.seen disk.old)
-        (D.read_faults disk.old) (D.read_faults disk.new) (D.write_faults disk.old) (D.write_faults disk.new) (W.faults out.old) (W.faults out.new) }
-    ensures reads { D.read_faults disk.old ≤ D.read_faults disk.new }
-    ensures writes { D.write_faults disk.old ≤ D.write_faults disk.new }
+    ensures sectors { (D.state disk.new).sectors ≡ (D.state disk.old).sectors }
+    ensures told { (image : Image) → (D.state disk.old).seen ≡ Some image
+        → Tells (between (D.state disk.old) (D.state disk.new) (W.written out.old) (W.written out.new) (W.faults out.old) (W.faults out.new))
+        (K.keying keyer.now).tag image result }
+    ensures cause { LookCause result Look.Stat (K.keying keyer.now).tag
+        (between (D.state disk.old) (D.state disk.new) (W.written out.old) (W.written out.new) (W.faults out.old) (W.faults out.new)) }
+    ensures reads { (D.state disk.old).read_faults ≤ (D.state disk.new).read_faults }
+    ensures writes { (D.state disk.old).write_faults ≤ (D.state disk.new).write_faults }
     ensures sink { W.faults out.old ≤ W.faults out.new }
 {
     match find_pool(alloc, disk, keyer) {
@@ -145,7 +134,7 @@ fn write_text<W: Sink>(
     group: u64,
     quota: Option<u64>,
 ) -> Status
-    ensures text { WritesSo result (bare_text (part_of item.now) stats.now group quota) (W.written out.old) (W.written out.new) }
+    ensures text { WritesSo result (text_of (part_of item.now) None stats.now group quota) (W.written out.old) (W.written out.new) }
     ensures cause { WriteCause result (W.faults out.old) (W.faults out.new) }
     ensures sink { W.faults out.old ≤ W.faults out.new }
 {

@@ -6,9 +6,10 @@ ghost use Rattle.disk_model.specs.Images.{Image, Stays};
 ghost use Rattle.disk_model.specs.Crashes.{LeavesOnly, NothingPending};
 ghost use Rattle.uber_ring.specs.Ring.{newest};
 ghost use Rattle.table_state.specs.Flat.{flat_version};
-ghost use Rattle.txg_sync.specs.Stages.{HasNoSeal};
-ghost use Rattle.session.specs.Entries.{IsOnDisk};
-ghost use Rattle.session.specs.Making.{Makes, MakeCause};
+ghost use Rattle.txg_sync.specs.Creating.{HasNoSeal};
+ghost use Rattle.session.specs.Entries.{IsLawfulSize};
+ghost use Rattle.session.specs.StageEntries.{IsOnDisk};
+ghost use Rattle.session.specs.StageMaking.{Makes, MakeCause};
 ghost use Rattle.session.specs.declared.status.Status.{Status};
 
 use crate::status::{Status, told};
@@ -24,16 +25,15 @@ const FLAT_VERSION: u32 = 0;
 /// Makes an empty pool of group 1, for a key function with this tag, which is sealed then. A size that isn't lawful
 /// is told before any device is called.
 pub(crate) fn make_pool<D: Disk>(alloc: Global, disk: &mut D, tag: u8) -> Result<Pool, Status>
-    ensures sectors { D.sectors_of disk.new ≡ D.sectors_of disk.old }
-    ensures on_disk { IfOk result (IsOnDisk (D.sectors_of disk.new) (D.seen disk.new) tag) }
+    ensures sectors { (D.state disk.new).sectors ≡ (D.state disk.old).sectors }
+    ensures on_disk { IfOk result (IsOnDisk (D.state disk.new) tag) }
     ensures first { IfOk result (λ pool. pool.group ≡ 1) }
-    ensures made { (image : Image) → D.seen disk.old ≡ Some image → NothingPending (Some image) (D.may_leave disk.old)
-        → Makes D.clock D.left_since D.may_leave D.seen disk.old disk.new tag image result }
+    ensures lawful { OnOk result (IsLawfulSize (D.state disk.old).sectors) }
+    ensures made { (image : Image) → (D.state disk.old).seen ≡ Some image → Makes (D.state disk.old) (D.state disk.new) tag image result }
     ensures sized { (n : ℕ) → IsErrOf result (Status.BadSize n) → disk.new ≡ disk.old }
-    ensures cause { (status : Status) → IsErrOf result status → MakeCause status (D.sectors_of disk.old) (D.seen disk.old)
-        (D.read_faults disk.old) (D.read_faults disk.new) (D.write_faults disk.old) (D.write_faults disk.new) }
-    ensures reads { D.read_faults disk.old ≤ D.read_faults disk.new }
-    ensures writes { D.write_faults disk.old ≤ D.write_faults disk.new }
+    ensures cause { (status : Status) → IsErrOf result status → MakeCause status (D.state disk.old) (D.state disk.new) }
+    ensures reads { (D.state disk.old).read_faults ≤ (D.state disk.new).read_faults }
+    ensures writes { (D.state disk.old).write_faults ≤ (D.state disk.new).write_faults }
 {
     crash_laws(disk);
     let sectors = disk.sectors();
@@ -53,17 +53,17 @@ pub(crate) fn make_pool<D: Disk>(alloc: Global, disk: &mut D, tag: u8) -> Result
 /// The number of the newest sealed group on a disk, and `None` where no seal counts. Before it reads, all that was
 /// written to the disk is made to last.
 fn newest_group<D: Disk>(disk: &mut D) -> Result<Option<u64>, Status>
-    ensures sectors { D.sectors_of disk.new ≡ D.sectors_of disk.old }
-    ensures stays { Stays (D.seen disk.old) (D.seen disk.new) }
-    ensures found { IfOk result (λ found. IfSome (D.seen disk.old) (λ image. found ≡ option_map (λ seal. seal.group) (newest flat_version image))) }
-    ensures durable { OnOk result (NothingPending (D.seen disk.old) (D.may_leave disk.new)) }
-    ensures no_more { (c : Image) → D.may_leave disk.new c → D.may_leave disk.old c }
-    ensures any_moment { LeavesOnly D.clock D.left_since disk.old disk.new (D.may_leave disk.old) }
+    requires lawful { IsLawfulSize (D.state disk.old).sectors }
+    ensures sectors { (D.state disk.new).sectors ≡ (D.state disk.old).sectors }
+    ensures stays { Stays (D.state disk.old).seen (D.state disk.new).seen }
+    ensures found { IfOk result (λ found. IfSome (D.state disk.old).seen (λ image. found ≡ option_map (λ seal. seal.group) (newest flat_version image))) }
+    ensures durable { OnOk result (NothingPending (D.state disk.old).seen (D.state disk.new).may_leave) }
+    ensures no_more { (c : Image) → (D.state disk.new).may_leave c → (D.state disk.old).may_leave c }
+    ensures any_moment { LeavesOnly (D.state disk.old) (D.state disk.new) (D.state disk.old).may_leave }
     ensures sized { (n : ℕ) → IsErrOf result (Status.BadSize n) → ⊥ }
-    ensures cause { (status : Status) → IsErrOf result status → MakeCause status (D.sectors_of disk.old) (D.seen disk.old)
-        (D.read_faults disk.old) (D.read_faults disk.new) (D.write_faults disk.old) (D.write_faults disk.new) }
-    ensures reads { D.read_faults disk.old ≤ D.read_faults disk.new }
-    ensures writes { D.write_faults disk.old ≤ D.write_faults disk.new }
+    ensures cause { (status : Status) → IsErrOf result status → MakeCause status (D.state disk.old) (D.state disk.new) }
+    ensures reads { (D.state disk.old).read_faults ≤ (D.state disk.new).read_faults }
+    ensures writes { (D.state disk.old).write_faults ≤ (D.state disk.new).write_faults }
 {
     crash_laws(disk);
     let Ok(mut meter) = disk.meter() else {
@@ -93,19 +93,18 @@ fn group_of(found: Option<Seal>) -> Option<u64>
 
 /// Seals an empty pool on a disk on which no seal counts.
 fn seal_empty_pool<D: Disk>(alloc: Global, disk: &mut D, tag: u8) -> Result<Pool, Status>
-    requires enough { 2048 ≤ D.sectors_of disk.old }
-    requires few { D.sectors_of disk.old ≤ 1000000 }
-    requires none { HasNoSeal (D.seen disk.old) }
-    ensures sectors { D.sectors_of disk.new ≡ D.sectors_of disk.old }
-    ensures on_disk { IfOk result (IsOnDisk (D.sectors_of disk.new) (D.seen disk.new) tag) }
+    requires enough { 2048 ≤ (D.state disk.old).sectors }
+    requires few { (D.state disk.old).sectors ≤ 1000000 }
+    requires none { HasNoSeal (D.state disk.old).seen }
+    ensures sectors { (D.state disk.new).sectors ≡ (D.state disk.old).sectors }
+    ensures on_disk { IfOk result (IsOnDisk (D.state disk.new) tag) }
     ensures first { IfOk result (λ pool. pool.group ≡ 1) }
-    ensures made { (image : Image) → D.seen disk.old ≡ Some image → NothingPending (Some image) (D.may_leave disk.old)
-        → Makes D.clock D.left_since D.may_leave D.seen disk.old disk.new tag image result }
+    ensures lawful { OnOk result (IsLawfulSize (D.state disk.old).sectors) }
+    ensures made { (image : Image) → (D.state disk.old).seen ≡ Some image → Makes (D.state disk.old) (D.state disk.new) tag image result }
     ensures sized { (n : ℕ) → IsErrOf result (Status.BadSize n) → ⊥ }
-    ensures cause { (status : Status) → IsErrOf result status → MakeCause status (D.sectors_of disk.old) (D.seen disk.old)
-        (D.read_faults disk.old) (D.read_faults disk.new) (D.write_faults disk.old) (D.write_faults disk.new) }
-    ensures reads { D.read_faults disk.old ≤ D.read_faults disk.new }
-    ensures writes { D.write_faults disk.old ≤ D.write_faults disk.new }
+    ensures cause { (status : Status) → IsErrOf result status → MakeCause status (D.state disk.old) (D.state disk.new) }
+    ensures reads { (D.state disk.old).read_faults ≤ (D.state disk.new).read_faults }
+    ensures writes { (D.state disk.old).write_faults ≤ (D.state disk.new).write_faults }
 {
     let _sectors = disk.sectors();
     let made = create(alloc, disk, tag);

@@ -1,12 +1,14 @@
 //! How a session's pool is opened: the one on the disk is imported, or a new one is made.
 
-ghost use Rattle.std.specs.Prelude.{◌≡◌, ◌≤◌, ℕ, [], Some, IfOk, IsErrOf, MatchResult};
+ghost use Rattle.std.specs.Prelude.{◌≡◌, ◌≤◌, ℕ, [], true, Some, None, IfOk, IsErrOf, MatchResult};
 ghost use Rattle.disk_model.specs.Images.{Image};
-ghost use Rattle.disk_model.specs.Crashes.{NothingPending};
 ghost use Rattle.pool_model.specs.declared.notes.Session.{Session};
-ghost use Rattle.session.specs.Entries.{IsOnDisk, last_start};
-ghost use Rattle.session.specs.Opening.{Opens};
-ghost use Rattle.session.specs.Running.{HasStatusCause, IsOfOpening};
+ghost use Rattle.session.specs.Devices.{between};
+ghost use Rattle.session.specs.Entries.{IsLawfulSize, last_start};
+ghost use Rattle.session.specs.Origins.{origin};
+ghost use Rattle.session.specs.Running.{HasCauseFor, SizedSo, imported_by};
+ghost use Rattle.session.specs.StageEntries.{IsOnDisk};
+ghost use Rattle.session.specs.StageOpening.{Opens, may_end_opening};
 ghost use Rattle.session.specs.declared.status.Status.{Status};
 ghost use Rattle.session.specs.declared.words.Word.{Word};
 
@@ -33,19 +35,22 @@ pub(crate) fn open_pool<D: Disk, K: KeyOf>(
     session: &mut Session,
 ) -> Result<Pool, Status>
     requires new { session.old.sealed ≡ 0 }
-    ensures sectors { D.sectors_of disk.new ≡ D.sectors_of disk.old }
+    ensures sectors { (D.state disk.new).sectors ≡ (D.state disk.old).sectors }
     ensures groups { session.new.groups ≡ session.old.groups }
-    ensures on_disk { IfOk result (IsOnDisk (D.sectors_of disk.new) (D.seen disk.new) (K.tag_of keyer.now)) }
+    ensures on_disk { IfOk result (IsOnDisk (D.state disk.new) (K.keying keyer.now).tag) }
     ensures early { IfOk result (λ pool. pool.group ≤ last_start) }
     ensures sealed { IfOk result (λ pool. session.new.sealed ≡ pool.group) }
-    ensures opened { (image : Image) → D.seen disk.old ≡ Some image → NothingPending (Some image) (D.may_leave disk.old)
-        → Opens D.clock D.left_since D.may_leave D.seen disk.old disk.new word (K.tag_of keyer.now) image session.new.sealed result }
+    ensures opened { (image : Image) → (D.state disk.old).seen ≡ Some image
+        → Opens (D.state disk.old) (D.state disk.new) word (K.keying keyer.now).tag image session.new.sealed result }
+    ensures unopened { (status : Status) → IsErrOf result status → session.new.sealed ≡ imported_by status }
     ensures sized { (n : ℕ) → IsErrOf result (Status.BadSize n) → (disk.new ≡ disk.old) × (session.new.sealed ≡ 0) }
-    ensures cause { (status : Status) → IsErrOf result status → HasStatusCause status word (K.tag_of keyer.now) (D.sectors_of disk.old) (D.seen disk.old)
-        (D.read_faults disk.old) (D.read_faults disk.new) (D.write_faults disk.old) (D.write_faults disk.new) 0 0 0 }
-    ensures devices { (status : Status) → IsErrOf result status → IsOfOpening status }
-    ensures reads { D.read_faults disk.old ≤ D.read_faults disk.new }
-    ensures writes { D.write_faults disk.old ≤ D.write_faults disk.new }
+    ensures unlawful { word ≡ Word.Make → (IsLawfulSize (D.state disk.old).sectors → ⊥)
+        → MatchResult result (λ _. ⊥) (λ status. SizedSo status Unit) }
+    ensures cause { (status : Status) → IsErrOf result status → HasCauseFor status word (K.keying keyer.now).tag
+        (between (D.state disk.old) (D.state disk.new) None None 0 0) 0 }
+    ensures devices { (status : Status) → IsErrOf result status → may_end_opening (origin status) ≡ true }
+    ensures reads { (D.state disk.old).read_faults ≤ (D.state disk.new).read_faults }
+    ensures writes { (D.state disk.old).write_faults ≤ (D.state disk.new).write_faults }
 {
     match word {
         Word::Run => take_up(alloc, disk, keyer, session),
@@ -61,19 +66,20 @@ fn take_up<D: Disk, K: KeyOf>(
     session: &mut Session,
 ) -> Result<Pool, Status>
     requires new { session.old.sealed ≡ 0 }
-    ensures sectors { D.sectors_of disk.new ≡ D.sectors_of disk.old }
+    ensures sectors { (D.state disk.new).sectors ≡ (D.state disk.old).sectors }
     ensures groups { session.new.groups ≡ session.old.groups }
-    ensures on_disk { IfOk result (IsOnDisk (D.sectors_of disk.new) (D.seen disk.new) (K.tag_of keyer.now)) }
+    ensures on_disk { IfOk result (IsOnDisk (D.state disk.new) (K.keying keyer.now).tag) }
     ensures early { IfOk result (λ pool. pool.group ≤ last_start) }
     ensures sealed { IfOk result (λ pool. session.new.sealed ≡ pool.group) }
-    ensures opened { (image : Image) → D.seen disk.old ≡ Some image → NothingPending (Some image) (D.may_leave disk.old)
-        → Opens D.clock D.left_since D.may_leave D.seen disk.old disk.new Word.Run (K.tag_of keyer.now) image session.new.sealed result }
+    ensures opened { (image : Image) → (D.state disk.old).seen ≡ Some image
+        → Opens (D.state disk.old) (D.state disk.new) Word.Run (K.keying keyer.now).tag image session.new.sealed result }
+    ensures unopened { (status : Status) → IsErrOf result status → session.new.sealed ≡ imported_by status }
     ensures sized { (n : ℕ) → IsErrOf result (Status.BadSize n) → (disk.new ≡ disk.old) × (session.new.sealed ≡ 0) }
-    ensures cause { (status : Status) → IsErrOf result status → HasStatusCause status Word.Run (K.tag_of keyer.now) (D.sectors_of disk.old) (D.seen disk.old)
-        (D.read_faults disk.old) (D.read_faults disk.new) (D.write_faults disk.old) (D.write_faults disk.new) 0 0 0 }
-    ensures devices { (status : Status) → IsErrOf result status → IsOfOpening status }
-    ensures reads { D.read_faults disk.old ≤ D.read_faults disk.new }
-    ensures writes { D.write_faults disk.old ≤ D.write_faults disk.new }
+    ensures cause { (status : Status) → IsErrOf result status → HasCauseFor status Word.Run (K.keying keyer.now).tag
+        (between (D.state disk.old) (D.state disk.new) None None 0 0) 0 }
+    ensures devices { (status : Status) → IsErrOf result status → may_end_opening (origin status) ≡ true }
+    ensures reads { (D.state disk.old).read_faults ≤ (D.state disk.new).read_faults }
+    ensures writes { (D.state disk.old).write_faults ≤ (D.state disk.new).write_faults }
 {
     let pool = find_pool(alloc, disk, keyer)?;
     session.sealed = pool.sealed;
@@ -91,19 +97,21 @@ fn begin_new<D: Disk, K: KeyOf>(
     session: &mut Session,
 ) -> Result<Pool, Status>
     requires new { session.old.sealed ≡ 0 }
-    ensures sectors { D.sectors_of disk.new ≡ D.sectors_of disk.old }
+    ensures sectors { (D.state disk.new).sectors ≡ (D.state disk.old).sectors }
     ensures groups { session.new.groups ≡ session.old.groups }
-    ensures on_disk { IfOk result (IsOnDisk (D.sectors_of disk.new) (D.seen disk.new) (K.tag_of keyer.now)) }
+    ensures on_disk { IfOk result (IsOnDisk (D.state disk.new) (K.keying keyer.now).tag) }
     ensures early { IfOk result (λ pool. pool.group ≤ last_start) }
     ensures sealed { IfOk result (λ pool. session.new.sealed ≡ pool.group) }
-    ensures opened { (image : Image) → D.seen disk.old ≡ Some image → NothingPending (Some image) (D.may_leave disk.old)
-        → Opens D.clock D.left_since D.may_leave D.seen disk.old disk.new Word.Make (K.tag_of keyer.now) image session.new.sealed result }
+    ensures opened { (image : Image) → (D.state disk.old).seen ≡ Some image
+        → Opens (D.state disk.old) (D.state disk.new) Word.Make (K.keying keyer.now).tag image session.new.sealed result }
+    ensures unopened { (status : Status) → IsErrOf result status → session.new.sealed ≡ imported_by status }
     ensures sized { (n : ℕ) → IsErrOf result (Status.BadSize n) → (disk.new ≡ disk.old) × (session.new.sealed ≡ 0) }
-    ensures cause { (status : Status) → IsErrOf result status → HasStatusCause status Word.Make (K.tag_of keyer.now) (D.sectors_of disk.old) (D.seen disk.old)
-        (D.read_faults disk.old) (D.read_faults disk.new) (D.write_faults disk.old) (D.write_faults disk.new) 0 0 0 }
-    ensures devices { (status : Status) → IsErrOf result status → IsOfOpening status }
-    ensures reads { D.read_faults disk.old ≤ D.read_faults disk.new }
-    ensures writes { D.write_faults disk.old ≤ D.write_faults disk.new }
+    ensures unlawful { (IsLawfulSize (D.state disk.old).sectors → ⊥) → MatchResult result (λ _. ⊥) (λ status. SizedSo status Unit) }
+    ensures cause { (status : Status) → IsErrOf result status → HasCauseFor status Word.Make (K.keying keyer.now).tag
+        (between (D.state disk.old) (D.state disk.new) None None 0 0) 0 }
+    ensures devices { (status : Status) → IsErrOf result status → may_end_opening (origin status) ≡ true }
+    ensures reads { (D.state disk.old).read_faults ≤ (D.state disk.new).read_faults }
+    ensures writes { (D.state disk.old).write_faults ≤ (D.state disk.new).write_faults }
 {
     let pool = make_pool(alloc, disk, keyer.tag())?;
     session.sealed = 1;

@@ -1,17 +1,21 @@
-ghost use Rattle.std.specs.Prelude.{◌≡◌, ◌≤◌, ◌+◌, ◌-◌, ◌^◌, ◌<◌, ◌++◌, ◌∷◌, [], ℕ, List, min, map, take, length, Some, None, OnOk, OnErr, IsErrOf, IfOk, ◌↔◌, string_bytes};
+ghost use Rattle.std.specs.Prelude.{◌≡◌, ◌≤◌, ◌+◌, ◌-◌, ◌^◌, ◌<◌, ◌++◌, ◌∷◌, [], ℕ, true, List, min, map, take, length, Some, None, OnOk, OnErr, IsErrOf, IfOk};
 ghost use Rattle.std.specs.List.{AllByRecursion};
-ghost use Rattle.disk_model.specs.Crashes.{NothingPending};
+ghost use Rattle.std.specs.Prelude.{◌↔◌, string_bytes};
 ghost use Rattle.cmd_file.specs.Items.{IsItem, AreItems};
-ghost use Rattle.session.specs.Words.{running_words};
-ghost use Rattle.session.specs.Running.{IsUntouched, ItemsRanOver, RanOver, IsOfDevices, BeforeDevices, HasStatusCause, ReadSo, told_in, faults_in, RoseBeyond, WentOn, IsOfItems};
-ghost use Rattle.session.specs.declared.words.Word.{Word};
 ghost use Rattle.io_model.specs.Outside.{Rose};
 ghost use Rattle.disk_model.specs.Images.{Image};
+ghost use Rattle.pool_model.specs.Group.{lanes_in_turn};
 ghost use Rattle.pool_model.specs.Plain.{part_of};
-ghost use Rattle.session.specs.Entries.{IsOnDisk, last_start};
-ghost use Rattle.session.specs.Going.{GoesOn};
-ghost use Rattle.session.specs.Stopping.{StopsIn};
+ghost use Rattle.session.specs.Devices.{between, reading};
+ghost use Rattle.session.specs.Entries.{IsLawfulSize, last_start};
+ghost use Rattle.session.specs.Origins.{origin, of_size, may_begin, is_before_devices};
+ghost use Rattle.session.specs.Running.{IsUntouched, RanOver, HasCauseFor, ReadSo, SizedSo, told_in, faults_in, RoseBeyond};
+ghost use Rattle.session.specs.StageEntries.{IsOnDisk};
+ghost use Rattle.session.specs.StageGoing.{GoesOn, StopsIn, ItemsRanOver, is_of_devices};
+ghost use Rattle.session.specs.StageItems.{may_end_item};
+ghost use Rattle.session.specs.Words.{running_words};
 ghost use Rattle.session.specs.declared.status.Status.{Status};
+ghost use Rattle.session.specs.declared.words.Word.{Word};
 
 use crate::item::do_item;
 use crate::opening::open_pool;
@@ -39,21 +43,27 @@ fn do_items<D: Disk, W: Sink, K: KeyOf>(
     requires few { length items.now ≤ 10_000 }
     requires room { length items.now ≤ session.old.groups.spare }
     requires new { session.old.groups.items ≡ [] }
-    requires on_disk { IsOnDisk (D.sectors_of disk.old) (D.seen disk.old) (K.tag_of keyer.now) pool.old }
-    requires early { (image : Image) → D.seen disk.old ≡ Some image → pool.old.group ≤ last_start }
+    requires on_disk { IsOnDisk (D.state disk.old) (K.keying keyer.now).tag pool.old }
+    requires early { (image : Image) → (D.state disk.old).seen ≡ Some image → pool.old.group ≤ last_start }
     requires sealed { session.old.sealed ≡ pool.old.group }
-    ensures sectors { D.sectors_of disk.new ≡ D.sectors_of disk.old }
-    ensures done { OnOk result (GoesOn D.clock D.left_since D.may_leave D.seen disk.old disk.new (K.key_of keyer.now) (K.tag_of keyer.now) pool.old
-        (map part_of items.now) (map part_of items.now) (told_in session.new) pool.new session.new.sealed (W.written out.old) (W.written out.new)) }
-    ensures tagged { OnOk result (pool.new.tag ≡ K.tag_of keyer.now) }
-    ensures stopped { (status : Status) → IsErrOf result status → StopsIn D.clock D.left_since D.may_leave D.seen disk.old disk.new (K.key_of keyer.now) (K.tag_of keyer.now) pool.old
-        (map part_of items.now) (told_in session.new) session.new.sealed (W.written out.old) (W.written out.new) status }
-    ensures ended { (image : Image) (status : Status) → D.seen disk.old ≡ Some image → IsErrOf result status → WentOn status Unit Unit }
-    ensures devices { (status : Status) → IsErrOf result status → IsOfItems status }
-    ensures reads { min (D.read_faults disk.old + faults_in session.new) (2 ^ 64 - 1) ≤ D.read_faults disk.new }
-    ensures read_cause { IsErrOf result Status.ReadFault → RoseBeyond (faults_in session.new) (D.read_faults disk.old) (D.read_faults disk.new) }
-    ensures writes { D.write_faults disk.old ≤ D.write_faults disk.new }
-    ensures write_cause { IsErrOf result Status.WriteFault → Rose (D.write_faults disk.old) (D.write_faults disk.new) }
+    ensures sectors { (D.state disk.new).sectors ≡ (D.state disk.old).sectors }
+    ensures done { OnOk result (GoesOn
+        (between (D.state disk.old) (D.state disk.new) (W.written out.old) (W.written out.new) (W.faults out.old) (W.faults out.new))
+        (lanes_in_turn (K.keying keyer.now)) pool.old (map part_of items.now) (map part_of items.now)
+        (told_in session.new) pool.new session.new.sealed) }
+    ensures tagged { OnOk result (pool.new.tag ≡ (K.keying keyer.now).tag) }
+    ensures stopped { (status : Status) → IsErrOf result status
+        → StopsIn
+        (between (D.state disk.old) (D.state disk.new) (W.written out.old) (W.written out.new) (W.faults out.old) (W.faults out.new))
+        (lanes_in_turn (K.keying keyer.now)) pool.old (map part_of items.now) (told_in session.new) session.new.sealed status }
+    ensures ended { (image : Image) (status : Status) → (D.state disk.old).seen ≡ Some image → IsErrOf result status
+        → may_begin (origin status) ≡ true }
+    ensures devices { (status : Status) → IsErrOf result status → may_end_item (origin status) ≡ true }
+    ensures reads { min ((D.state disk.old).read_faults + faults_in session.new) (2 ^ 64 - 1) ≤ (D.state disk.new).read_faults }
+    ensures read_cause { IsErrOf result Status.ReadFault
+        → RoseBeyond (faults_in session.new) (D.state disk.old).read_faults (D.state disk.new).read_faults }
+    ensures writes { (D.state disk.old).write_faults ≤ (D.state disk.new).write_faults }
+    ensures write_cause { IsErrOf result Status.WriteFault → Rose (D.state disk.old).write_faults (D.state disk.new).write_faults }
     ensures sink { W.faults out.old ≤ W.faults out.new }
     ensures sink_cause { IsErrOf result Status.SinkFault → Rose (W.faults out.old) (W.faults out.new) }
 {
@@ -80,16 +90,19 @@ fn run_items<D: Disk, W: Sink, K: KeyOf>(
 ) -> Status
     requires form { AreItems (map part_of items.now) }
     requires new { IsUntouched session.old }
-    ensures sectors { D.sectors_of disk.new ≡ D.sectors_of disk.old }
-    ensures ran { (image : Image) → D.seen disk.old ≡ Some image → NothingPending (Some image) (D.may_leave disk.old)
-        → ItemsRanOver D.clock D.left_since D.may_leave D.seen disk.old disk.new word (K.tag_of keyer.now) image (K.key_of keyer.now) (map part_of items.now) session.new
-        (W.written out.old) (W.written out.new) result }
-    ensures devices { IsOfDevices result }
-    ensures sized { BeforeDevices result ((disk.new ≡ disk.old) × (out.new ≡ out.old) × IsUntouched session.new) }
-    ensures cause { HasStatusCause result word (K.tag_of keyer.now) (D.sectors_of disk.old) (D.seen disk.old) (D.read_faults disk.old) (D.read_faults disk.new)
-        (D.write_faults disk.old) (D.write_faults disk.new) (W.faults out.old) (W.faults out.new) (faults_in session.new) }
-    ensures reads { min (D.read_faults disk.old + faults_in session.new) (2 ^ 64 - 1) ≤ D.read_faults disk.new }
-    ensures writes { D.write_faults disk.old ≤ D.write_faults disk.new }
+    ensures sectors { (D.state disk.new).sectors ≡ (D.state disk.old).sectors }
+    ensures ran { (image : Image) → (D.state disk.old).seen ≡ Some image
+        → ItemsRanOver
+        (between (D.state disk.old) (D.state disk.new) (W.written out.old) (W.written out.new) (W.faults out.old) (W.faults out.new))
+        word (lanes_in_turn (K.keying keyer.now)) image (map part_of items.now) session.new result }
+    ensures devices { is_of_devices (origin result) ≡ true }
+    ensures sized { origin result ≡ of_size → (disk.new ≡ disk.old) × (out.new ≡ out.old) × IsUntouched session.new }
+    ensures unlawful { word ≡ Word.Make → (IsLawfulSize (D.state disk.old).sectors → ⊥) → SizedSo result Unit }
+    ensures cause { HasCauseFor result word (K.keying keyer.now).tag
+        (between (D.state disk.old) (D.state disk.new) (W.written out.old) (W.written out.new) (W.faults out.old) (W.faults out.new))
+        (faults_in session.new) }
+    ensures reads { min ((D.state disk.old).read_faults + faults_in session.new) (2 ^ 64 - 1) ≤ (D.state disk.new).read_faults }
+    ensures writes { (D.state disk.old).write_faults ≤ (D.state disk.new).write_faults }
     ensures sink { W.faults out.old ≤ W.faults out.new }
 {
     crash_laws(disk);
@@ -121,18 +134,24 @@ pub fn run<D: Disk, S: Source, W: Sink, K: KeyOf>(
     session: &mut Session,
 ) -> Status
     requires new { IsUntouched session.old }
-    ensures sectors { D.sectors_of disk.new ≡ D.sectors_of disk.old }
+    ensures sectors { (D.state disk.new).sectors ≡ (D.state disk.old).sectors }
     ensures usage { (result ≡ Status.Usage) ↔ (running_words (map string_bytes words.now) ≡ None) }
-    ensures ran { (image : Image) (word : Word) → running_words (map string_bytes words.now) ≡ Some word → D.seen disk.old ≡ Some image → NothingPending (Some image) (D.may_leave disk.old)
-        → RanOver D.clock D.left_since D.may_leave D.seen disk.old disk.new word (K.tag_of keyer.now) image (K.key_of keyer.now) (S.left input.old) (S.left input.new) session.new
-        (W.written out.old) (W.written out.new) result }
-    ensures read { ReadSo result (S.left input.old) (S.left input.new) (S.faults input.old) (S.faults input.new) }
+    ensures ran { (image : Image) (word : Word) → running_words (map string_bytes words.now) ≡ Some word
+        → (D.state disk.old).seen ≡ Some image → RanOver
+        (between (D.state disk.old) (D.state disk.new) (W.written out.old) (W.written out.new) (W.faults out.old) (W.faults out.new))
+        (reading (S.left input.old) (S.left input.new) (S.faults input.old) (S.faults input.new))
+        word (lanes_in_turn (K.keying keyer.now)) image session.new result }
+    ensures read { ReadSo result (reading (S.left input.old) (S.left input.new) (S.faults input.old) (S.faults input.new)) }
     ensures unread { result ≡ Status.Usage → input.new ≡ input.old }
-    ensures untouched { BeforeDevices result ((disk.new ≡ disk.old) × (out.new ≡ out.old) × IsUntouched session.new) }
-    ensures cause { (word : Word) → running_words (map string_bytes words.now) ≡ Some word → HasStatusCause result word (K.tag_of keyer.now) (D.sectors_of disk.old) (D.seen disk.old)
-        (D.read_faults disk.old) (D.read_faults disk.new) (D.write_faults disk.old) (D.write_faults disk.new) (W.faults out.old) (W.faults out.new) (faults_in session.new) }
-    ensures reads { min (D.read_faults disk.old + faults_in session.new) (2 ^ 64 - 1) ≤ D.read_faults disk.new }
-    ensures writes { D.write_faults disk.old ≤ D.write_faults disk.new }
+    ensures untouched { is_before_devices (origin result) ≡ true → (disk.new ≡ disk.old) × (out.new ≡ out.old) × IsUntouched session.new }
+    ensures sized { running_words (map string_bytes words.now) ≡ Some Word.Make → (IsLawfulSize (D.state disk.old).sectors → ⊥)
+        → SizedSo result Unit }
+    ensures cause { (word : Word) → running_words (map string_bytes words.now) ≡ Some word
+        → HasCauseFor result word (K.keying keyer.now).tag
+        (between (D.state disk.old) (D.state disk.new) (W.written out.old) (W.written out.new) (W.faults out.old) (W.faults out.new))
+        (faults_in session.new) }
+    ensures reads { min ((D.state disk.old).read_faults + faults_in session.new) (2 ^ 64 - 1) ≤ (D.state disk.new).read_faults }
+    ensures writes { (D.state disk.old).write_faults ≤ (D.state disk.new).write_faults }
     ensures source { S.faults input.old ≤ S.faults input.new }
     ensures sink { W.faults out.old ≤ W.faults out.new }
 {

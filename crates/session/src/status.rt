@@ -64,7 +64,7 @@ pub(crate) fn told(fault: SyncFault) -> Status
 {
     match fault {
         SyncFault::ReadFault => Status::ReadFault,
-        SyncFault::WriteFault => Status::WriteFault,
+        SyncFault::WriteFault | SyncFault::GateFault => Status::WriteFault,
         SyncFault::Damaged(sector) => Status::Damaged(sector),
         SyncFault::Memory => Status::OutOfMemory,
     }
