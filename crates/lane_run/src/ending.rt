@@ -2,9 +2,7 @@
 
 ghost use Rattle.std.specs.Prelude.{◌≡◌, ◌≤◌, ◌+◌, ◌^◌, ◌<◌, [], ◌∷◌, map, length, IfOk, OnErr};
 ghost use Rattle.pool_model.specs.Plain.{reply_of, task_of, told_of};
-ghost use Rattle.table_state.specs.Closing.{closed_of};
-ghost use Rattle.table_state.specs.Closing.{IsInRange};
-ghost use Rattle.table_state.specs.Closing.{block_places};
+ghost use Rattle.table_state.specs.Closing.{closed_of, IsInRange, block_places};
 ghost use Rattle.lane_run.specs.Live.{group_here};
 ghost use Rattle.lane_run.specs.Going.{lanes_here};
 

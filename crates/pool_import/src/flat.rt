@@ -64,11 +64,11 @@ pub fn read_flat<D: Disk>(
     meter: &mut D::Meter,
     seal: &Seal,
 ) -> Result<FlatImage, PageFault>
-    ensures read { IfOk result (λ flat. IfSome (D.seen disk.now) (λ image. IsRead image seal.now flat)) }
+    ensures read { IfOk result (λ flat. IfSome (D.state disk.now).seen (λ image. IsRead image seal.now flat)) }
     ensures slots { IfOk result (λ flat. AllByRecursion (λ slot. is_slot seal.now.sectors seal.now.group slot ≡ true) flat.slots) }
     ensures lengths { IfOk result (λ flat. HasLengths flat) }
     ensures damaged { (sector : ℕ) → IsErrOf result (Damaged sector) →
-        IfSome (D.seen disk.now) (λ image. (flat : Flat) → IsRead image seal.now flat → ⊥) }
+        IfSome (D.state disk.now).seen (λ image. (flat : Flat) → IsRead image seal.now flat → ⊥) }
     ensures count { D.meter_faults meter.old ≤ D.meter_faults meter.new }
     ensures cause { IsErrOf result ReadFault → Rose (D.meter_faults meter.old) (D.meter_faults meter.new) }
 {

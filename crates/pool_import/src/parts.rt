@@ -40,10 +40,10 @@ pub fn read_slots<D: Disk>(
     sectors: u64,
     group: u64,
 ) -> Result<SlotList, PageFault>
-    ensures read { IfOk result (λ slots. IfSome (D.seen disk.now) (λ image.
+    ensures read { IfOk result (λ slots. IfSome (D.state disk.now).seen (λ image.
         ReadsSlots sectors group image named.old.items root.now named.new.items slots.items)) }
     ensures within { IfOk result (λ slots. AllByRecursion (λ slot. is_slot sectors group slot ≡ true) slots.items) }
-    ensures damaged { (sector : ℕ) → IsErrOf result (Damaged sector) → IfSome (D.seen disk.now) (λ image.
+    ensures damaged { (sector : ℕ) → IsErrOf result (Damaged sector) → IfSome (D.state disk.now).seen (λ image.
         (after : List ℕ) (slots : List SlotRecord) → ReadsSlots sectors group image named.old.items root.now after slots → ⊥) }
     ensures count { D.meter_faults meter.old ≤ D.meter_faults meter.new }
     ensures cause { IsErrOf result ReadFault → Rose (D.meter_faults meter.old) (D.meter_faults meter.new) }
@@ -61,10 +61,10 @@ pub fn read_entries<D: Disk>(
     root: &Option<PagePtr>,
     named: &mut SectorList,
 ) -> Result<EntryList, PageFault>
-    ensures read { IfOk result (λ entries. IfSome (D.seen disk.now) (λ image.
+    ensures read { IfOk result (λ entries. IfSome (D.state disk.now).seen (λ image.
         ReadsEntries image named.old.items root.now named.new.items entries.items)) }
     ensures lengths { IfOk result (λ entries. AllByRecursion (λ entry. IsKeyLength entry.key.len) entries.items) }
-    ensures damaged { (sector : ℕ) → IsErrOf result (Damaged sector) → IfSome (D.seen disk.now) (λ image.
+    ensures damaged { (sector : ℕ) → IsErrOf result (Damaged sector) → IfSome (D.state disk.now).seen (λ image.
         (after : List ℕ) (entries : List AnEntry) → ReadsEntries image named.old.items root.now after entries → ⊥) }
     ensures count { D.meter_faults meter.old ≤ D.meter_faults meter.new }
     ensures cause { IsErrOf result ReadFault → Rose (D.meter_faults meter.old) (D.meter_faults meter.new) }
@@ -82,10 +82,10 @@ pub fn read_changes<D: Disk>(
     root: &Option<PagePtr>,
     named: &mut SectorList,
 ) -> Result<ChangeList, PageFault>
-    ensures read { IfOk result (λ log. IfSome (D.seen disk.now) (λ image.
+    ensures read { IfOk result (λ log. IfSome (D.state disk.now).seen (λ image.
         ReadsChanges image named.old.items root.now named.new.items log.items)) }
     ensures lengths { IfOk result (λ log. AllByRecursion HasLength log.items) }
-    ensures damaged { (sector : ℕ) → IsErrOf result (Damaged sector) → IfSome (D.seen disk.now) (λ image.
+    ensures damaged { (sector : ℕ) → IsErrOf result (Damaged sector) → IfSome (D.state disk.now).seen (λ image.
         (after : List ℕ) (log : List AChange) → ReadsChanges image named.old.items root.now after log → ⊥) }
     ensures count { D.meter_faults meter.old ≤ D.meter_faults meter.new }
     ensures cause { IsErrOf result ReadFault → Rose (D.meter_faults meter.old) (D.meter_faults meter.new) }

@@ -4,7 +4,7 @@ ghost use Rattle.disk_model.specs.Crashes.{LeavesOnly, NothingPending};
 ghost use Rattle.disk_model.specs.Faults.{Rose};
 ghost use Rattle.pool_model.specs.Pool.{Pool as APool};
 ghost use Rattle.pool_model.specs.Table.{TableState};
-ghost use Rattle.pool_model.specs.declared.faults.SyncFault.TheVariants.{Damaged, ReadFault, WriteFault};
+ghost use Rattle.pool_model.specs.declared.faults.SyncFault.TheVariants.{Damaged, ReadFault, WriteFault, GateFault};
 ghost use Rattle.table_state.specs.Flat.{HasNoPool, IsDamaged};
 ghost use Rattle.table_state.specs.Pools.{IsHeld};
 ghost use Rattle.table_state.specs.Sound.{IsSound};
@@ -27,20 +27,22 @@ pub fn import<D: Disk, K: KeyOf>(
     disk: &mut D,
     keyer: &K,
 ) -> Result<Option<Pool>, SyncFault>
-    ensures sectors { D.sectors_of disk.new ≡ D.sectors_of disk.old }
-    ensures stays { Stays (D.seen disk.old) (D.seen disk.new) }
-    ensures none { IfOk result (λ found. IfNone found (IfSome (D.seen disk.old) HasNoPool)) }
-    ensures pool { IfOk result (λ found. IfSome found (λ held. (held.tag ≡ K.tag_of keyer.now) × IfSome (D.seen disk.old) (λ image.
+    ensures sectors { (D.state disk.new).sectors ≡ (D.state disk.old).sectors }
+    ensures stays { Stays (D.state disk.old).seen (D.state disk.new).seen }
+    ensures none { IfOk result (λ found. IfNone found (IfSome (D.state disk.old).seen HasNoPool)) }
+    ensures pool { IfOk result (λ found. IfSome found (λ held.
+        (held.tag ≡ (K.keying keyer.now).tag) × IfSome (D.state disk.old).seen (λ image.
         (pool : APool) × (table : TableState) × IsHeld image held pool table))) }
     ensures sound { IfOk result (λ found. IfSome found IsSound) }
-    ensures on_disk { IfOk result (λ found. IfSome found (λ held. held.sectors ≤ D.sectors_of disk.new)) }
-    ensures damaged { (sector : ℕ) → IsErrOf result (Damaged sector) → IfSome (D.seen disk.old) (IsDamaged (K.tag_of keyer.now)) }
-    ensures durable { OnOk result (NothingPending (D.seen disk.old) (D.may_leave disk.new)) }
-    ensures any_moment { LeavesOnly D.clock D.left_since disk.old disk.new (D.may_leave disk.old) }
-    ensures reads { D.read_faults disk.old ≤ D.read_faults disk.new }
-    ensures writes { D.write_faults disk.old ≤ D.write_faults disk.new }
-    ensures read_cause { IsErrOf result ReadFault → Rose (D.read_faults disk.old) (D.read_faults disk.new) }
-    ensures write_cause { IsErrOf result WriteFault → Rose (D.write_faults disk.old) (D.write_faults disk.new) }
+    ensures on_disk { IfOk result (λ found. IfSome found (λ held. held.sectors ≤ (D.state disk.new).sectors)) }
+    ensures damaged { (sector : ℕ) → IsErrOf result (Damaged sector) → IfSome (D.state disk.old).seen (IsDamaged (K.keying keyer.now).tag) }
+    ensures gate { IsErrOf result GateFault → ⊥ }
+    ensures durable { OnOk result (NothingPending (D.state disk.old).seen (D.state disk.new).may_leave) }
+    ensures any_moment { LeavesOnly (D.state disk.old) (D.state disk.new) (D.state disk.old).may_leave }
+    ensures reads { (D.state disk.old).read_faults ≤ (D.state disk.new).read_faults }
+    ensures writes { (D.state disk.old).write_faults ≤ (D.state disk.new).write_faults }
+    ensures read_cause { IsErrOf result ReadFault → Rose (D.state disk.old).read_faults (D.state disk.new).read_faults }
+    ensures write_cause { IsErrOf result WriteFault → Rose (D.state disk.old).write_faults (D.state disk.new).write_faults }
 {
     crash_laws(disk);
     let tag = keyer.tag();

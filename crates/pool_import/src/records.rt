@@ -17,9 +17,10 @@ pub fn read_records<D: Disk>(
     root: &Option<PagePtr>,
     named: &mut SectorList,
 ) -> Result<RecordList, PageFault>
-    ensures read { IfOk result (λ records. IfSome (D.seen disk.now) (λ image. Reads image named.old.items root.now named.new.items records.items)) }
+    ensures read { IfOk result (λ records. IfSome (D.state disk.now).seen (λ image.
+        Reads image named.old.items root.now named.new.items records.items)) }
     ensures damaged { (sector : ℕ) → IsErrOf result (Damaged sector) →
-        IfSome (D.seen disk.now) (λ image. chain_in image (length image) named.old.items root.now ≡ None) }
+        IfSome (D.state disk.now).seen (λ image. chain_in image (length image) named.old.items root.now ≡ None) }
     ensures count { D.meter_faults meter.old ≤ D.meter_faults meter.new }
     ensures cause { IsErrOf result ReadFault → Rose (D.meter_faults meter.old) (D.meter_faults meter.new) }
 {

@@ -28,13 +28,13 @@ pub fn find_pool<D: Disk>(
     meter: &mut D::Meter,
     tag: u8,
 ) -> Result<Option<Pool>, PageFault>
-    ensures none { IfOk result (λ found. IfNone found (IfSome (D.seen disk.now) HasNoPool)) }
+    ensures none { IfOk result (λ found. IfNone found (IfSome (D.state disk.now).seen HasNoPool)) }
     ensures tagged { IfOk result (λ found. IfSome found (λ held. held.tag ≡ tag)) }
-    ensures pool { IfOk result (λ found. IfSome found (λ held. IfSome (D.seen disk.now) (λ image.
+    ensures pool { IfOk result (λ found. IfSome found (λ held. IfSome (D.state disk.now).seen (λ image.
         (pool : APool) × (table : TableState) × IsHeld image held pool table))) }
     ensures sound { IfOk result (λ found. IfSome found IsSound) }
-    ensures on_disk { IfOk result (λ found. IfSome found (λ held. held.sectors ≤ D.sectors_of disk.now)) }
-    ensures damaged { (sector : ℕ) → IsErrOf result (Damaged sector) → IfSome (D.seen disk.now) (IsDamaged tag) }
+    ensures on_disk { IfOk result (λ found. IfSome found (λ held. held.sectors ≤ (D.state disk.now).sectors)) }
+    ensures damaged { (sector : ℕ) → IsErrOf result (Damaged sector) → IfSome (D.state disk.now).seen (IsDamaged tag) }
     ensures count { D.meter_faults meter.old ≤ D.meter_faults meter.new }
     ensures cause { IsErrOf result ReadFault → Rose (D.meter_faults meter.old) (D.meter_faults meter.new) }
 {
@@ -58,11 +58,11 @@ pub fn sealed_pool<D: Disk>(
     tag: u8,
 ) -> Result<Pool, PageFault>
     ensures tagged { IfOk result (λ held. held.tag ≡ tag) }
-    ensures pool { IfOk result (λ held. IfSome (D.seen disk.now) (λ image. IsMadeOf tag image seal.now held)) }
+    ensures pool { IfOk result (λ held. IfSome (D.state disk.now).seen (λ image. IsMadeOf tag image seal.now held)) }
     ensures sound { IfOk result IsSound }
-    ensures on_disk { IfOk result (λ held. held.sectors ≤ D.sectors_of disk.now) }
+    ensures on_disk { IfOk result (λ held. held.sectors ≤ (D.state disk.now).sectors) }
     ensures damaged { (sector : ℕ) → IsErrOf result (Damaged sector) →
-        IfSome (D.seen disk.now) (λ image. (flat : Flat) → IsStanding tag image seal.now flat → ⊥) }
+        IfSome (D.state disk.now).seen (λ image. (flat : Flat) → IsStanding tag image seal.now flat → ⊥) }
     ensures count { D.meter_faults meter.old ≤ D.meter_faults meter.new }
     ensures cause { IsErrOf result ReadFault → Rose (D.meter_faults meter.old) (D.meter_faults meter.new) }
 {

@@ -4,6 +4,7 @@ pub mod FlatLaws
 pub mod Held
 pub mod Kept
 pub mod MarksOf
+pub mod NamedStays
 pub mod PagesOf
 pub mod Refilled
 pub mod RoomLaws

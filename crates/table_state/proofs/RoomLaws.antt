@@ -51,7 +51,7 @@ same_pages : (s s' u u' d d' a a' f f' : ℕ) → s ≡ s' → u ≡ u' → d �
 same_pages s s' u u' d d' a a' f f' es eu ed ea ef = cc
 
 -- the records of slots and a table take as many pages as these
-pages_of_records : (slots : List SlotRecord) (table : TableState)
+pub pages_of_records : (slots : List SlotRecord) (table : TableState)
     → pages_of (records_in slots table) ≡ pages_for (length slots) + table_pages table
 pages_of_records slots table =
     five_lists (map slot_bytes slots) (map entry_bytes (unique_in table.zap)) (map entry_bytes (duplicate_in table.zap))

@@ -17,7 +17,7 @@ use Rattle.pool_model.specs.Pool.{Pool, Pointer, Pairwise}
 use Rattle.pool_model.specs.Plain.{Stored}
 use Rattle.pool_model.specs.Space.{is_used, used_sectors}
 use Rattle.pool_model.specs.Table.{TableState, found, waiting_in, IsTable}
-use Rattle.table_state.specs.Flat.{Flat, StandsFor, IsClear, IsWithin, IsChangeWithin, stands_before, pointer_of, table_in}
+use Rattle.table_state.specs.Flat.{Flat, StandsFor, IsClear, IsWithin, IsChangeWithin, stands_before, pointer_of}
 use Rattle.table_state.specs.Holding.{Holds, StandsOver, WaitingStand}
 use Rattle.table_state.specs.Pools.{Held, IsHeld, slots_after, pool_after, with_blocks}
 use Rattle.table_state.specs.SealForms.{last_group}
@@ -30,7 +30,6 @@ use Rattle.table_state.proofs.SlotLaws.{is_slot-from}
 use Rattle.table_state.proofs.SlotsAfter.{rising_after, within_after, within_later}
 use Rattle.table_state.proofs.Stands.{sealed_stands, sealed_by, sealed_keeps}
 use Rattle.table_state.proofs.Syncing.{sync_within, sync_lengths}
-use Rattle.table_state.proofs.TableBack.{is_table_in}
 use Rattle.table_state.proofs.UsedLaws.{all_waiting, used_same}
 use Rattle.pool_model.proofs.Waiting.{waiting_has}
 use Rattle.pool_model.proofs.Syncing.{sync_keeps, sync_checkpoint}
@@ -111,6 +110,9 @@ module _ (held : Held) (closed : PlainClosed) (sound : IsSound held) (range : Is
   lengths' : HasKeyLengths table'
   lengths' = sync_lengths closed.log held.table sound.lengths range.lengths
 
+  sorted' : IsTable table'
+  sorted' = sync_keeps closed.log held.table sound.sorted
+
   open' : AreOpen held.sectors [] (places_in parts)
   open' = subst (λ n. AreOpen n [] (places_in parts)) sound.used_len plan.placed.places_open
 
@@ -136,6 +138,7 @@ module _ (held : Held) (closed : PlainClosed) (sound : IsSound held) (range : Is
     slots_rising =
         subst (λ (s : List SlotRecord). Pairwise (λ a b. stands_before a b ≡ true) s) (sym plan.is_next.slots_are)
         (rising_after closed.slots held.slots sound.slots_rising);
+    sorted = subst IsTable (sym plan.is_next.table_is) sorted';
     lengths = subst HasKeyLengths (sym plan.is_next.table_is) lengths';
     counts = λ key home there.
         subst (λ (s : List SlotRecord). home.count ≤ length s) (sym plan.is_next.slots_are)
@@ -153,14 +156,6 @@ module _ (held : Held) (closed : PlainClosed) (sound : IsSound held) (range : Is
       (spelt : AreSpelt next.slots next.table) where
     abbrev pool' : Pool
     pool' = pool_with image held closed
-
-    held_table : held.table ≡ table_in can.is_held.stands.seal can.is_held.stands.flat
-    held_table = can.is_held.table_is ∙ can.is_held.stands.table_is
-
-    sorted' : IsTable table'
-    sorted' =
-        sync_keeps closed.log held.table
-        (subst IsTable (sym held_table) (is_table_in can.is_held.stands.seal can.is_held.stands.flat can.is_held.stands.whole))
 
     spelt' : AreSpelt slots' table'
     spelt' = subst (λ (t : TableState). AreSpelt slots' t) plan.is_next.table_is (subst (λ (s : List SlotRecord). AreSpelt s next.table) plan.is_next.slots_are spelt)

@@ -6,10 +6,10 @@ pub mod Parts
 pub mod Filling
 pub mod Stored
 pub mod Groups
-pub mod NamedStays
 pub mod Outcomes
 pub mod Afterwards
 pub mod PlannedLimits
+pub mod FewHomes
 pub mod PlannedRecords
 pub mod PlannedSlots
 pub mod PlannedSeals

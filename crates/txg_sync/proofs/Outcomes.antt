@@ -13,7 +13,7 @@ use Rattle.table_state.specs.Pools.{Held}
 use Rattle.table_state.specs.Sound.{IsSound}
 use Rattle.table_state.specs.Sealed.{ChainPart, places_in}
 use Rattle.txg_sync.specs.Writing.{group_places, IsUnsealed}
-use Rattle.txg_sync.proofs.NamedStays.{holds_still}
+use Rattle.table_state.proofs.NamedStays.{holds_still}
 
 -- what is used isn't one of the places that aren't
 pub apart_from_unused : (used : List Bool) (places : List ℕ) (at : ℕ) → AllByRecursion (λ place. slice_index_or used place true ≡ false) places → slice_index_or used at true ≡ true → list_any (λ place. place == at) places ≡ false

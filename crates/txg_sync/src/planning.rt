@@ -1,9 +1,9 @@
-ghost use Rattle.std.specs.Prelude.{◌≡◌, ◌≤◌, ◌<◌, ◌+◌, ◌++◌, ◌∷◌, [], ℕ, true, List, slice_index_or, IfOk, IfNone, IfSome};
+ghost use Rattle.std.specs.Prelude.{◌≡◌, ◌≤◌, ◌<◌, ◌+◌, ◌^◌, ◌++◌, ◌∷◌, [], ℕ, true, List, length, slice_index_or, IfOk, IfNone, IfSome};
 ghost use Rattle.std.specs.List.{AllByRecursion};
 ghost use Rattle.ddt_entry.specs.Records.{IsKeyLength};
 ghost use Rattle.page_tree.specs.Pointers.{null_pointer};
 ghost use Rattle.page_tree.specs.declared.pointer.PagePtr.{PagePtr};
-ghost use Rattle.pool_model.specs.Table.{sync_table};
+ghost use Rattle.pool_model.specs.Table.{entries_found, sync_table};
 ghost use Rattle.table_state.specs.SealForms.{last_group};
 ghost use Rattle.table_state.specs.Pools.{slots_after};
 ghost use Rattle.table_state.specs.Sealed.{places_in, records_in, seal_of};
@@ -25,9 +25,6 @@ use pool_model::Closed;
 use std::alloc::{AllocError, Global};
 use table_state::{Pool, SlotList, SlotRecord};
 use uber_ring::Seal;
-
-/// The most homes of a table whose counts are added up. No memory holds so many.
-const MOST_HOMES: usize = 1 << 40;
 
 /// What a sync is going to write.
 #[derive(Drop)]
@@ -59,7 +56,7 @@ fn table_of(alloc: Global, pool: &Pool, closed: &Closed) -> Result<PlainTable, A
     table.sync_table(alloc, closed.changes.as_slice())
 }
 
-/// The seal of the group, once it is seen that its homes can be counted. The error is want of memory.
+/// The seal of the group, of whose table few homes are found. The error is want of memory.
 fn seal_after(
     alloc: Global,
     pool: &Pool,
@@ -69,13 +66,10 @@ fn seal_after(
 ) -> Result<Seal, AllocError>
     requires last { pool.now.group + 1 ≤ last_group }
     requires within { IsTableWithin pool.now.sectors (pool.now.group + 1) table.now }
+    requires few { length (entries_found table.now) ≤ 2 ^ 40 }
     ensures { IfOk result (λ seal. (roots : List PagePtr) → record seal { pointers = roots ++ null_pointer ∷ [] }
         ≡ seal_of pool.now.tag pool.now.sectors (pool.now.group + 1) closed.now.modes closed.now.quota table.now roots pages) }
 {
-    let found = table.entries_found(alloc)?;
-    if found.len() > MOST_HOMES {
-        return Err(AllocError);
-    }
     seal_of(
         alloc,
         pool.tag,

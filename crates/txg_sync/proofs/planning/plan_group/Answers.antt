@@ -4,6 +4,7 @@ use Rattle.table_state.specs.Sealed.{places_in, records_in, seal_of}
 use Rattle.table_state.specs.declared.slot_record.SlotRecord.{SlotRecord}
 use Rattle.table_state.specs.Closing.{closed_of}
 use Rattle.txg_sync.specs.Placing.{ArePlaced}
+use Rattle.txg_sync.proofs.FewHomes.{few_homes}
 use Rattle.txg_sync.proofs.Planned.{lengths_after, table_within_after, slot_lengths_after, is_plan}
 use Rattle.txg_sync.proofs.planning.plan_group.Goals as goal
 
@@ -14,6 +15,12 @@ chains_of-requires-clause-lengths c =
 pub seal_after-requires-clause-within : goal.seal_after-requires-clause-within
 seal_after-requires-clause-within c =
     table_within_after c.args.pool.now (closed_of c.args.closed.now) c.requires.sound c.requires.range _ c.in_ok-table.ensures
+
+pub seal_after-requires-clause-few : goal.seal_after-requires-clause-few
+seal_after-requires-clause-few c =
+    let placed = rw c.in-Some.is at c.in_ok-parts.ensures.placed in
+    few_homes c.args.pool.now c.requires.sound (closed_of c.args.closed.now).contents _ c.in_ok-table.table c.in-Some.parts.items placed
+    (closed_of c.args.closed.now).log c.in_ok-table.ensures
 
 pub next_of-requires-clause-slots : goal.next_of-requires-clause-slots
 next_of-requires-clause-slots c =

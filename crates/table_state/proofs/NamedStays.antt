@@ -17,7 +17,6 @@ use Rattle.table_state.specs.declared.slot_record.SlotRecord.{SlotRecord}
 use Rattle.table_state.proofs.Held.{SamePointers, SameWaiting, holds_over, holds_kept}
 use Rattle.table_state.proofs.Kept.{pages_behind}
 use Rattle.pool_model.proofs.Lists.{all_from_both}
-use Rattle.table_state.proofs.TableBack.{is_table_in}
 use Rattle.table_state.proofs.UsedLaws.{all_waiting, pointer_runs, slot_lengths, waiting_runs}
 use Rattle.table_state.proofs.UsedPlaces.{pages_used, pointers_used, waiting_used}
 use Rattle.pool_model.proofs.Waiting.{waiting_has}
@@ -31,7 +30,7 @@ module _ (image : Image) (held : Held) (s : Standing) (sound : IsSound held) (ov
 
   -- what stands has a sorted table
   pub sorted_over : IsTable s.table
-  sorted_over = subst IsTable (sym state.table_is) (is_table_in state.seal state.flat state.whole)
+  sorted_over = subst IsTable over.is_held.table_is sound.sorted
 
   pages_after_ring : AllByRecursion (λ at. 32 ≤ at) held.pages
   pages_after_ring =

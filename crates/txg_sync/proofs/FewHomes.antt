@@ -1,0 +1,31 @@
+-- The table after a group finds few homes, once its chains have places among the pool's sectors.
+use Rattle.std.proofs.Common.{◌≡◌, ◌∙◌, ◌^◌, ◌<◌, ◌≤◌, List, [], length, ap, sym, subst, arith}
+use Rattle.page_tree.proofs.OpenPlaces.{open_places-fewer}
+use Rattle.pool_model.specs.Plain.{Stored}
+use Rattle.pool_model.specs.Table.{TableState, IsTable, entries_found, sync_table}
+use Rattle.pool_model.proofs.Syncing.{sync_keeps}
+use Rattle.ddt_entry.specs.declared.entry.Change.{Change}
+use Rattle.table_state.specs.Pools.{Held}
+use Rattle.table_state.specs.Sealed.{ChainPart, places_in, records_in}
+use Rattle.table_state.specs.Sound.{IsSound}
+use Rattle.table_state.specs.Tables.{table_pages}
+use Rattle.table_state.specs.declared.slot_record.SlotRecord.{SlotRecord}
+use Rattle.table_state.proofs.RoomLaws.{pages_of_records}
+use Rattle.table_state.specs.Closing.{pages_of}
+use Rattle.txg_sync.specs.Placing.{ArePlaced}
+use Rattle.txg_sync.proofs.PlacedParts.{places_as_pages}
+use Rattle.txg_sync.proofs.PlannedLimits.{few_found}
+
+module _ (held : Held) (sound : IsSound held) (contents : List Stored) (slots : List SlotRecord) (table : TableState)
+    (parts : List ChainPart) (placed : ArePlaced held.used contents (records_in slots table) parts) where
+  -- each page has a sector of its own
+  few_pages : table_pages table ≤ 1_000_000
+  few_pages =
+      let spelled : length (places_in parts) ≡ pages_of (records_in slots table) =
+      places_as_pages parts placed.pages ∙ ap pages_of placed.spelled in
+      let some : 0 < length held.used = omega (arith, sound.used_len, sound.enough) in
+      let fewer = open_places-fewer (length held.used) [] (places_in parts) some placed.places_open in
+      omega (arith, spelled, pages_of_records slots table, fewer, sound.used_len, sound.few)
+
+  pub few_homes : (log : List Change) → table ≡ sync_table log held.table → length (entries_found table) ≤ 2 ^ 40
+  few_homes log is = few_found table (subst IsTable (sym is) (sync_keeps log held.table sound.sorted)) few_pages
