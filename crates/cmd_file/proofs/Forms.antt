@@ -8,7 +8,7 @@ use Rattle.std.proofs.lemmas.Bool.{ltb-true, leb-true}
 use Rattle.std.proofs.lemmas.List.{length_push}
 use Rattle.hex.specs.Hex.{decode_of}
 use Rattle.hex.specs.declared.FromHexError.{FromHexError}
-use Rattle.pool_model.specs.Plain.{Task, write, Part, lanes, stat, «import»}
+use Rattle.pool_model.specs.Plain.{Task, write, lanes, Part, of_group, stat, «import»}
 use Rattle.pool_model.specs.File.{OpenGroup, Progress, file_of, file_limit, or_bad, parts_in, ended, first_progress, read_line, read_behind, read_item, read_command, with_part, with_group, with_task, is_line_feed, is_space, moment_in, moment_in_words, moment_limit, task_in, task_in_words, write_task, number_in, is_number, slot_limit, block_in, lawful_block, is_lower_hex}
 use Rattle.cmd_file.specs.Items.{AreItems, IsItem, IsWrite}
 
@@ -70,7 +70,7 @@ words_have_a_moment (a ∷ b ∷ c ∷ more) moment e = cc
 -- there is room for the group that is open
 abbrev HasRoom : (parts : List Part) → Option OpenGroup → Type 0
 HasRoom parts None = length parts ≤ 10000
-HasRoom parts (Some group) = (length parts < 10000) × IsItem (lanes group.moment group.tasks)
+HasRoom parts (Some group) = (length parts < 10000) × IsItem (of_group (lanes group.moment group.tasks))
 
 -- what was read keeps to its form
 abbrev Fits : Progress → Type 0
@@ -102,13 +102,17 @@ read_item_fits parts line now all less e =
       ] h
     ] e
 
-read_command_fits : (parts : List Part) (group : OpenGroup) (line : List ℕ) (now : Progress) → AllByRecursion IsItem parts → HasRoom parts (Some group) → read_command parts group line ≡ Some now → Fits now
+read_command_fits : (parts : List Part) (group : OpenGroup) (line : List ℕ) (now : Progress) → AllByRecursion IsItem parts → HasRoom parts (Some group)
+    → read_command parts group line ≡ Some now → Fits now
 read_command_fits parts group line now all room e =
-    elim (bytes_eq line (codes "end")) as (λ b. cond b (Some (with_part parts (lanes group.moment group.tasks))) (cond (nat_lt (length group.tasks) 1000) (with_task parts group (task_in line)) None) ≡ Some now → Fits now) [
-      | true ↦ λ h. (let same : with_part parts (lanes group.moment group.tasks) ≡ now = cc in subst Fits same (with_part_fits parts (lanes group.moment group.tasks) all room.0 room.1))
+    let whole : Part = of_group (lanes group.moment group.tasks) in
+    let further : Option Progress = cond (nat_lt (length group.tasks) 1000) (with_task parts group (task_in line)) None in
+    elim (bytes_eq line (codes "end")) as (λ b. cond b (Some (with_part parts whole)) further ≡ Some now → Fits now) [
+      | true ↦ λ h. (let same : with_part parts whole ≡ now = cc in subst Fits same (with_part_fits parts whole all room.0 room.1))
       | false ↦ λ h.
           let test = chosen (nat_lt (length group.tasks) 1000) now (with_task parts group (task_in line)) h in
-          with_task_fits parts group (task_in line) now all room (ltb-true (length group.tasks) 1000 test.0) (words_are_a_write (slice_split is_space line)) test.1
+          with_task_fits parts group (task_in line) now all room (ltb-true (length group.tasks) 1000 test.0)
+          (words_are_a_write (slice_split is_space line)) test.1
     ] e
 
 read_behind_fits : (parts : List Part) (group : Option OpenGroup) (line : List ℕ) (now : Progress) → AllByRecursion IsItem parts → HasRoom parts group → read_behind parts group line ≡ Some now → Fits now

@@ -1,13 +1,12 @@
 -- What every item of a good command file keeps to.
 use Rattle.std.specs.Prelude.{◌≡◌, ◌^◌, ◌<◌, ◌≤◌, List, length, ⊤}
 use Rattle.std.specs.List.{AllByRecursion}
-use Rattle.pool_model.specs.Plain.{Act, write, read, free, Task, Part, create, lanes, prune, quota, set_mode, stat, «import»}
+use Rattle.pool_model.specs.Plain.{Act, write, Task, lanes, Part, of_group, stat, «import»}
 
 -- a block of 1 to 4,096 bytes is written
 abbrev pub WritesBlock : Act → Type 0
 WritesBlock (write content) = (0 < length content) × (length content ≤ 4096)
-WritesBlock read = ⊥
-WritesBlock free = ⊥
+WritesBlock act = ⊥
 
 -- a write of a block into a slot of lane 0
 abbrev pub IsWrite : Task → Type 0
@@ -15,13 +14,10 @@ IsWrite task = (task.lane ≡ 0) × (task.slot < 65536) × WritesBlock task.act
 
 -- a group of at most 1,000 writes at a moment below 2^40, a `stat`, or an `import`
 abbrev pub IsItem : Part → Type 0
-IsItem (lanes moment tasks) = (moment < 2 ^ 40) × (length tasks ≤ 1000) × AllByRecursion IsWrite tasks
+IsItem (of_group (lanes moment tasks)) = (moment < 2 ^ 40) × (length tasks ≤ 1000) × AllByRecursion IsWrite tasks
 IsItem stat = ⊤
 IsItem «import» = ⊤
-IsItem create = ⊥
-IsItem (prune moment rule) = ⊥
-IsItem (quota limit) = ⊥
-IsItem (set_mode lane mode) = ⊥
+IsItem part = ⊥
 
 -- at most 10,000 such items
 abbrev pub AreItems : List Part → Type 0

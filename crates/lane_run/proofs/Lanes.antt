@@ -24,7 +24,7 @@ use Rattle.lane_run.specs.Going.{IsCourse, turns_from, first_course, HasRun, Has
 use Rattle.lane_run.specs.Live.{Live, write_of, put_at, after_row, row_here, IsChosen, IsWritten, WritesAct, CountsFault}
 use Rattle.lane_run.proofs.Places.{IsNew}
 use Rattle.lane_run.proofs.Opened.{live_opened, course_opened}
-use Rattle.lane_run.proofs.Ranges.{IsRanged, place_new, place_within, row_ranged}
+use Rattle.lane_run.proofs.Ranges.{IsKeyed, IsNext, IsRanged, place_behind, place_new, place_within, row_ranged}
 use Rattle.lane_run.proofs.Turns.{spot_places, turn_on}
 
 -- over told contents, whatever places follow, the group goes as the definitions' course
@@ -38,10 +38,29 @@ pub record IsLane (told : Option Image) (key_of : List ℕ → Key) (held : Held
   pub counts : min (before + count_by is_fault live.replies) (2 ^ 64 - 1) ≤ now
   pub going : GoesOver told key_of held moment (contents_in (map task_of commands)) (turns_from (map task_of (take i commands)) live.replies) live
 
+-- before the first command
+pub opened_ranged : (held : Held) (places : List ℕ) (keys : ℕ) → IsRanged held places keys 0 (live_opened keys)
+opened_ranged held places keys = record {
+  each = refl;
+  named = tt;
+  brought = record {
+    slots_few = omega arith;
+    slots_within = tt;
+    slots_more = omega arith;
+    blocks_few = omega arith;
+    places_are = refl;
+    behind = tt;
+    on_disk = tt;
+    blocks = tt;
+    keys_few = omega arith;
+    homes = tt;
+  };
+}
+
 pub lane_opened : (told : Option Image) (key_of : List ℕ → Key) (held : Held) (moment : ℕ) (commands : List Command) (places : List ℕ) (keys before : ℕ) → keys ≡ length (counted_homes held.table)
     → IsLane told key_of held moment commands places keys 0 before before (live_opened keys)
 lane_opened told key_of held moment commands places keys before keys_are = record {
-  ranged = record { each = refl; slots_few = omega arith; blocks_few = omega arith; places_are = refl; keys_few = omega arith; homes = tt; blocks = tt };
+  ranged = opened_ranged held places keys;
   counts = omega arith;
   going = λ image s is over more. course_opened image held s over key_of moment (contents_in (map task_of commands)) keys more keys_are;
 }
@@ -108,10 +127,20 @@ first_task t content lane act = λ i. record { lane = lane i; slot = t.slot; act
 
 -- one write more
 module _ (told : Option Image) (key_of : List ℕ → Key) (keeps : (content : List ℕ) → (key_of content).len ≡ length content) (held : Held) (moment : ℕ) (commands : List Command) (places : List ℕ) (start i before now later : ℕ) (live next : Live) (command : Command) (place : ℕ)
-    (sound : IsSound held) (are_free : AreFirstFree held.used (length commands) places) (below : i < length commands) (is : command ≡ get_or commands i command) (first : IsFirstWrite (task_of command)) (lane : IsLane told key_of held moment commands places start i before now live)
+    (sound : IsSound held) (early : moment < 2 ^ 40) (are_free : AreFirstFree held.used (length commands) places) (below : i < length commands) (is : command ≡ get_or commands i command) (first : IsFirstWrite (task_of command)) (lane : IsLane told key_of held moment commands places start i before now live)
     (place_is : place ≡ get_or places (length live.contents) place) where
   place_below : length live.contents < length places
-  place_below = omega (arith, lane.ranged.blocks_few, below, are_free.count)
+  place_below = omega (arith, lane.ranged.brought.blocks_few, below, are_free.count)
+
+  is_next : IsNext held places live place
+  is_next = record {
+    below = place_below;
+    place_is = place_is;
+    start = subst (λ n. 32 ≤ n) (sym place_is) (place_behind held (length commands) places are_free place (length live.contents) place_below sound);
+    end =
+        subst (λ n. n < held.sectors) (sym place_is)
+        (place_within held (length commands) places are_free place (length live.contents) place_below sound);
+  }
 
   tasks_are : map task_of (take (i + 1) commands) ≡ map task_of (take i commands) ++ task_of command ∷ []
   tasks_are = ap (map task_of) (take_more commands i command below ∙ ap (λ x. take i commands ++ x ∷ []) (sym is)) ∙ map-append task_of (take i commands) (command ∷ [])
@@ -143,7 +172,7 @@ module _ (told : Option Image) (key_of : List ℕ → Key) (keeps : (content : L
         let length_is : (key_of content).len ≡ length content = keeps content in
         let long : 0 < (key_of content).len = omega (arith, length_is, some) in
         let one : run_length (key_of content) ≡ 1 = one_sector (key_of content).len long (omega (arith, length_is, fits)) in
-        let is_new = subst (λ n. IsNew held.used live.contents n) (sym place_is) (place_new held (length commands) places are_free live.contents place place_below lane.ranged.places_are) in
+        let is_new = subst (λ n. IsNew held.used live.contents n) (sym place_is) (place_new held (length commands) places are_free live.contents place place_below lane.ranged.brought.places_are) in
         let step = turn_on key_of image held s moment others over live command.slot content written.chosen place is_among long one length_is is_new more course w chosen_is in
         let turn : Turn = record { task = write_of command.slot content; reply = to_write written.chosen.answer } in
         let whole : first_course key_of s moment (block_places made.contents ++ more) (turns_from (map task_of (take (i + 1) commands)) made.replies) ≡ after (opening_of key_of s moment) course turn =
@@ -152,9 +181,18 @@ module _ (told : Option Image) (key_of : List ℕ → Key) (keeps : (content : L
         ∙ course_of-push (opening_of key_of s moment) s.pool (fresh ∷ replicate 15 []) turns turn in
         subst (λ (c : Course). IsCourse key_of image held s moment others made more c) (sym whole) step
 
+    is_keyed : IsKeyed command.slot (key_of content)
+    is_keyed = record {
+      slot_few = first.slot;
+      long = (omega (arith, keeps content, some), omega (arith, keeps content, fits));
+      fits = written.fits;
+    }
+
     lane_made : IsLane told key_of held moment commands places start (i + 1) before later made
     lane_made = record {
-      ranged = row_ranged held places start i live lane.ranged sound place command.slot (key_of content) content written.chosen written.home_is (subst (λ n. n < held.sectors) (sym place_is) (place_within held (length commands) places are_free place (length live.contents) place_below sound)) fits place_below place_is;
+      ranged =
+          row_ranged held places start i live lane.ranged sound moment early command.slot (key_of content) content is_keyed fits place is_next
+          written.chosen written.home_is written.since written.empty;
       counts = subst (λ rs. min (before + count_by is_fault rs) (2 ^ 64 - 1) ≤ later) (sym (replies_on held place command.slot (key_of content) content live written.chosen)) (counts_on before now later live.replies written.chosen.answer lane.counts written.counts);
       going = going_made;
     }
@@ -178,9 +216,9 @@ lane_done told key_of held moment commands places start i before now live all la
     let whole : take i commands ≡ commands = ap (λ n. take n commands) all ∙ take-length commands in
     record {
       each = lane.ranged.each ∙ sym many;
-      slots_few = omega (arith, lane.ranged.slots_few, many);
-      blocks_few = omega (arith, lane.ranged.blocks_few, many);
-      places_are = lane.ranged.places_are;
+      slots_few = omega (arith, lane.ranged.brought.slots_few, many);
+      blocks_few = omega (arith, lane.ranged.brought.blocks_few, many);
+      places_are = lane.ranged.brought.places_are;
       counts = lane.counts;
       course = λ image s is over.
           subst (λ (c : Course). IsCourse key_of image held s moment (contents_in (map task_of commands)) live [] c)

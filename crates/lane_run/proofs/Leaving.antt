@@ -9,8 +9,6 @@ use Rattle.ddt_entry.specs.declared.key.Key.{Key}
 use Rattle.ddt_entry.specs.declared.entry.Home.{Home}
 use Rattle.ddt_entry.specs.declared.entry.Entry.{Entry}
 use Rattle.ddt_entry.specs.declared.entry.Change.{Change}
-use Rattle.ddt_entry.specs.declared.entry.Change.TheVariants as changes
-use Rattle.ddt_entry.specs.Changes.{key_in}
 use Rattle.ddt_entry.specs.Records.{IsKeyLength}
 use Rattle.disk_model.specs.Images.{Image, sector_at}
 use Rattle.grant_book.specs.Sectors.{AreFirstFree}
@@ -19,7 +17,7 @@ use Rattle.pool_model.specs.Table.{TableState, Matches, found, sync_table, waiti
 use Rattle.pool_model.specs.Plain.{Act, write, read, free, Task, Reply, Stored}
 use Rattle.pool_model.specs.Clash.{contents_in}
 use Rattle.pool_model.specs.Command.{Opening, Turn, Course, known_home}
-use Rattle.pool_model.specs.Group.{Standing, opening_of, IsFree, AreFresh, change_of, changes_of, change_from, settled, home_eq, block_or, blocks_after, after_lanes}
+use Rattle.pool_model.specs.Group.{Standing, opening_of, IsFree, AreFresh, change_of, changes_of, change_from, settled, block_or, blocks_after, after_lanes}
 use Rattle.pool_model.specs.Space.{need}
 use Rattle.uber_ring.specs.declared.seal.Seal.{Seal}
 use Rattle.table_state.specs.SealForms.{is_formed, has_size, has_flags, has_modes, has_checkpoint, fewest_sectors, most_sectors}
@@ -52,28 +50,8 @@ use Rattle.pool_model.proofs.Syncing.{sync_keeps}
 use Rattle.pool_model.proofs.Lists.{all_in, all_from}
 use Rattle.lane_run.specs.Going.{IsCourse, IsPlaced, Stands, Trusted, turns_from, first_course}
 use Rattle.lane_run.specs.Live.{Live, sector_or, sector_here, first_mode, changes_here, group_here}
+use Rattle.lane_run.proofs.InRange.{own_from}
 use Rattle.lane_run.proofs.Openings.{table_sorted, home_within, waiting_run, waiting_used, waiting_is_used, homes_match, formed, matches_by_key}
-
--- a change of a key is of that key
-own_from : (key : Key) (before now : Option Home) (change : Change) → change_from key before now ≡ Some change → key_in change ≡ key
-own_from key before None change is = absurd (cc is)
-own_from key None (Some home) change is = own_entry is
-  where
-    own_entry : Some (changes.Entry (record { key = key; home = home })) ≡ Some change → key_in change ≡ key
-    own_entry same = ap (λ (o : Option Change). key_or o) (sym same)
-      where
-        key_or : Option Change → Key
-        key_or None = key
-        key_or (Some c) = key_in c
-own_from key (Some was) (Some home) change is = by_test (home_eq was home) is
-  where
-    key_or : Option Change → Key
-    key_or None = key
-    key_or (Some c) = key_in c
-
-    by_test : (b : Bool) → cond b None (Some (changes.Entry (record { key = key; home = home }))) ≡ Some change → key_in change ≡ key
-    by_test true gives = absurd (cc gives)
-    by_test false gives = ap key_or (sym gives)
 
 writes_alone : (tasks : List Task) (replies : List Reply) → AllByRecursion IsFirstWrite tasks → AllByRecursion (λ turn. IsWrite turn.task.act) (turns_from tasks replies)
 writes_alone [] replies all = tt

@@ -1,6 +1,8 @@
 pub mod Changes
 pub mod Choices
 pub mod Courses
+pub mod Growing
+pub mod InRange
 pub mod Knowing
 pub mod Lanes
 pub mod Leaving

@@ -1,5 +1,5 @@
 -- What holds of a pool in memory when a group opens on it: the homes that its table finds, and that those that wait have a place that is used.
-use Rattle.std.proofs.Common.{◌≡◌, ℕ, ◌<◌, ◌≤◌, Bool, true, false, List, [], ◌∷◌, length, Some, None, Option, refl, sym, subst, ◌∙◌, arith, ⊎_elim}
+use Rattle.std.proofs.Common.{◌≡◌, ℕ, ◌^◌, ◌<◌, ◌≤◌, Bool, true, false, List, [], ◌∷◌, length, Some, None, Option, refl, sym, subst, ◌∙◌, arith, ⊎_elim}
 use Rattle.std.specs.Prelude.{slice_index_or}
 use Rattle.std.specs.List.{AllByRecursion, find}
 use Rattle.std.specs.Option.{option_map}
@@ -34,7 +34,9 @@ use Rattle.lane_run.proofs.Stored.{found_has}
 pub record IsHomeWithin (sectors group : ℕ) (home : Home) : Type 0 where
   pub start : 32 ≤ home.place
   pub end : home.place < sectors
+  pub born : 1 ≤ home.birth
   pub birth : home.birth ≤ group
+  pub since : home.since < 2 ^ 40
   pub count : home.count ≤ 1048576
 
 -- ---- What is found is in the lists
@@ -68,7 +70,7 @@ found_within sectors group table key home within is =
     (logged table.active within.active) is
   where
     of_entry : (entry : Entry) → IsWithin sectors group entry → IsHomeWithin sectors group entry.home
-    of_entry entry w = record { start = w.place; end = w.on_disk; birth = w.birth; count = w.count }
+    of_entry entry w = record { start = w.place; end = w.on_disk; born = w.born; birth = w.birth; since = w.since; count = w.count }
 
     entries : (es : List Entry) → AllByRecursion (IsWithin sectors group) es → AllByRecursion (λ e. IsHomeWithin sectors group e.home) es
     entries [] all = tt

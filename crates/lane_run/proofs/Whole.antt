@@ -21,7 +21,7 @@ use Rattle.pool_model.specs.Space.{need, space_lacking, changes_in, writes_in, i
 use Rattle.pool_model.specs.Table.{flush_limit}
 use Rattle.pool_model.specs.Clash.{HasNoOther, contents_in, is_on}
 use Rattle.pool_model.specs.Command.{Turn, Course, is_fault}
-use Rattle.pool_model.specs.Group.{Standing, opening_of, course_of, tasks_of, lanes_of, turns_of, Rules, lanes_in_turn, lane_by_lane, fresh_of, HasEachLane, Agrees, AreFresh, IsFree, after_lanes}
+use Rattle.pool_model.specs.Group.{Standing, opening_of, course_of, tasks_of, lanes_of, turns_of, lanes_in_turn, lane_by_lane, fresh_of, HasEachLane, Agrees, AreFresh, IsFree, after_lanes}
 use Rattle.pool_model.specs.Run.{noted_course, AnswersAsRun, sealed_standing}
 use Rattle.table_state.specs.Pools.{Held}
 use Rattle.table_state.specs.Closing.{block_places}

@@ -1,7 +1,8 @@
 -- A group of writes of lane 0 as far as it has come, beside the pool as the newest sealed group left it: what one write makes of it.
-use Rattle.std.specs.Prelude.{◌≡◌, ℕ, ◌+◌, ◌-◌, ◌^◌, ◌<◌, ◌≤◌, min, ⊤, Bool, ◌&&◌, ◌||◌, ◌==◌, List, [], ◌∷◌, ◌++◌, take, fold, length, Option, Some, None, unwrap_or, slice_get, if◌then◌else◌}
+use Rattle.std.specs.Prelude.{◌≡◌, ◌⊎◌, ℕ, ◌+◌, ◌-◌, ◌^◌, ◌<◌, ◌≤◌, min, ⊤, Bool, true, ◌&&◌, ◌||◌, ◌==◌, List, [], ◌∷◌, ◌++◌, take, fold, length, Option, Some, None, unwrap_or, slice_get, if◌then◌else◌}
 use Rattle.std.specs.List.{AllByRecursion, count_by, find, filter_map, list_any}
 use Rattle.ddt_entry.specs.Keys.{key_eq}
+use Rattle.ddt_entry.specs.Records.{KeyFits}
 use Rattle.ddt_entry.specs.declared.key.Key.{Key}
 use Rattle.ddt_entry.specs.declared.entry.Home.{Home}
 use Rattle.ddt_entry.specs.declared.entry.Entry.{Entry}
@@ -145,6 +146,12 @@ IsHomeOf now nowhere = ⊤
 IsHomeOf now (at_home home mark) = now ≡ Some home
 IsHomeOf now (at_fresh mark) = ⊤
 
+-- the table counts a pointer at a home since this moment or since the home's, and one at a fresh place since none that is later
+abbrev pub IsSince : (moment : ℕ) → Spot → Type 0
+IsSince moment nowhere = ⊤
+IsSince moment (at_home home mark) = (since_of mark ≡ moment) ⊎ (since_of mark ≡ home.since)
+IsSince moment (at_fresh mark) = since_of mark ≤ moment
+
 -- a count of faulty reads that went up where the answer is a fault, unless it stands at its end
 abbrev pub CountsFault : (before now : ℕ) → WriteAnswer → Type 0
 CountsFault before now answer = min (before + count_by is_fault (to_write answer ∷ [])) (2 ^ 64 - 1) ≤ now
@@ -154,6 +161,9 @@ pub record IsWritten (told : Option Image) (key_of : List ℕ → Key) (held : H
   pub chosen : Row
   pub is_chosen : IsChosen told key_of held live moment slot content chosen
   pub home_is : IsHomeOf (home_here held.table live.homes (key_of content)) chosen.spot
+  pub since : IsSince moment chosen.spot
+  pub empty : is_taken held live slot ≡ true → chosen.spot ≡ nowhere
+  pub fits : KeyFits (key_of content)
   pub counts : CountsFault before now chosen.answer
   pub next_is : next ≡ after_row held place slot (key_of content) content live chosen
 

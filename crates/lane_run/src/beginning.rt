@@ -7,9 +7,11 @@ ghost use Rattle.disk_model.specs.Crashes.{LeavesOnly, SameOutcomes};
 ghost use Rattle.grant_book.specs.Sectors.{AreFirstFree};
 ghost use Rattle.pool_model.specs.Plain.{task_of};
 ghost use Rattle.pool_model.specs.Table.{counted_homes};
+ghost use Rattle.table_state.specs.Closing.{IsInRange};
 ghost use Rattle.table_state.specs.Sound.{IsSound};
 ghost use Rattle.lane_run.specs.Groups.{IsFirstWrite};
 ghost use Rattle.lane_run.specs.Going.{HasRunFree, HasRunOver, OnlyMeter};
+ghost use Rattle.lane_run.specs.Live.{group_here};
 
 use crate::live::LiveGroup;
 use crate::metering::metered;
@@ -56,6 +58,7 @@ pub fn begun<D: Disk, K: KeyOf>(
 ) -> Result<(LiveGroup, u64), GroupFault>
     requires sound { IsSound pool.now }
     requires on_disk { pool.now.sectors ≤ (D.state disk.old).sectors }
+    requires moment { moment < 2 ^ 40 }
     requires few { length commands.now ≤ 65_536 }
     requires writes { AllByRecursion IsFirstWrite (map task_of commands.now) }
     requires room { length commands.now ≤ count_by not pool.now.used }
@@ -64,6 +67,7 @@ pub fn begun<D: Disk, K: KeyOf>(
     ensures crash { SameOutcomes (D.state disk.old).may_leave (D.state disk.new).may_leave }
     ensures any_moment { LeavesOnly (D.state disk.old) (D.state disk.new) (D.state disk.old).may_leave }
     ensures run { IfOk result (λ done. HasRunFree (D.state disk.old).seen (K.keying keyer.now).key_of pool.now moment (map task_of commands.now) done.1 done.0) }
+    ensures in_range { IfOk result (λ done. IsInRange pool.now (group_here pool.now done.0)) }
     ensures counts { IfOk result (λ done. min ((D.state disk.old).read_faults + done.1) (2 ^ 64 - 1) ≤ (D.state disk.new).read_faults) }
     ensures reads { (D.state disk.old).read_faults ≤ (D.state disk.new).read_faults }
     ensures writes { (D.state disk.old).write_faults ≤ (D.state disk.new).write_faults }

@@ -1,13 +1,13 @@
 //! What a write answers, and where its pointer goes.
 
-ghost use Rattle.std.specs.Prelude.{◌≡◌, ◌≤◌, ◌<◌, ℕ, List, length, map, Some, IfSome, if◌then◌else◌};
+ghost use Rattle.std.specs.Prelude.{◌≡◌, ◌≤◌, ◌<◌, ℕ, true, List, length, map, Some, IfSome, if◌then◌else◌};
 ghost use Rattle.std.specs.List.{AllByRecursion};
 ghost use Rattle.disk_model.specs.Images.{Image};
 ghost use Rattle.pool_model.specs.declared.answers.WriteAnswer.TheVariants as written;
 ghost use Rattle.pool_model.specs.Plain.{stored_of, to_write};
 ghost use Rattle.pool_model.specs.Command.{row, nowhere, verify_row, is_fault};
 ghost use Rattle.home_rules.specs.Rows.{row_of};
-ghost use Rattle.lane_run.specs.Live.{CountsFault, IsChosen, IsHomeOf, first_mode, home_here, known_by, mode_here};
+ghost use Rattle.lane_run.specs.Live.{CountsFault, IsChosen, IsHomeOf, IsSince, first_mode, home_here, is_taken, known_by, mode_here};
 
 use crate::block::sector_at;
 use crate::live::LiveGroup;
@@ -43,6 +43,7 @@ fn verified<D: Disk, K: KeyOf>(
     ensures row { (image : Image) → (D.state disk.now).seen ≡ Some image → row_of result ≡ (if is_fault (to_write (row_of result).answer) then row written.Fault nowhere
         else verify_row (K.keying keyer.now).key_of (known_by image (map stored_of contents.now) ((K.keying keyer.now).key_of content.now) home) content.now allowed moment) }
     ensures home { IsHomeOf home (row_of result).spot }
+    ensures since { IsSince moment (row_of result).spot }
     ensures counts { CountsFault (D.meter_faults meter.old) (D.meter_faults meter.new) (row_of result).answer }
 {
     let Some(found) = home else {
@@ -74,6 +75,7 @@ fn for_mode<D: Disk, K: KeyOf>(
     requires blocks { AllByRecursion (λ stored. length stored.bytes ≤ 4096) live.now.contents }
     ensures row { (image : Image) → (D.state disk.now).seen ≡ Some image → row_of result ≡ mode_here (K.keying keyer.now).key_of image pool.now live.now moment content.now (is_fault (to_write (row_of result).answer)) }
     ensures home { IsHomeOf (home_here pool.now.table live.now.homes ((K.keying keyer.now).key_of content.now)) (row_of result).spot }
+    ensures since { IsSince moment (row_of result).spot }
     ensures counts { CountsFault (D.meter_faults meter.old) (D.meter_faults meter.new) (row_of result).answer }
 {
     let home = live.home_of(pool, &keyer.key(content));
@@ -111,6 +113,8 @@ pub fn chosen<D: Disk, K: KeyOf>(
     requires blocks { AllByRecursion (λ stored. length stored.bytes ≤ 4096) live.now.contents }
     ensures row { IsChosen (D.state disk.now).seen (K.keying keyer.now).key_of pool.now live.now moment slot content.now (row_of result) }
     ensures home { IsHomeOf (home_here pool.now.table live.now.homes ((K.keying keyer.now).key_of content.now)) (row_of result).spot }
+    ensures since { IsSince moment (row_of result).spot }
+    ensures empty { is_taken pool.now live.now slot ≡ true → (row_of result).spot ≡ nowhere }
     ensures counts { CountsFault (D.meter_faults meter.old) (D.meter_faults meter.new) (row_of result).answer }
 {
     if live.is_taken(pool, slot) {

@@ -2,7 +2,7 @@
 
 ghost use Rattle.std.specs.Prelude.{◌≡◌, ◌≤◌, ◌+◌, ◌^◌, ◌<◌, [], ◌∷◌, map, length, IfOk, OnErr};
 ghost use Rattle.pool_model.specs.Plain.{reply_of, task_of, told_of};
-ghost use Rattle.table_state.specs.Closing.{closed_of, IsInRange, block_places};
+ghost use Rattle.table_state.specs.Closing.{IsInRange, block_places, closed_of};
 ghost use Rattle.lane_run.specs.Live.{group_here};
 ghost use Rattle.lane_run.specs.Going.{lanes_here};
 
@@ -11,7 +11,6 @@ use crate::live::LiveGroup;
 use pool_model::{Answers, Closed, Command, GroupFault, GroupNote, LaneNote, PlaceList};
 use std::alloc::{AllocError, Global};
 use table_state::Pool;
-use txg_sync::is_in_range;
 
 /// Notes what lane 0 did, where it had commands. The error is want of memory.
 fn note_lane(
@@ -50,6 +49,7 @@ pub fn ended(
     note: &mut GroupNote,
 ) -> Result<Closed, AllocError>
     requires last { pool.now.group < 2 ^ 63 }
+    requires in_range { IsInRange pool.now (group_here pool.now live) }
     requires unnoted { note.old.lanes.items ≡ [] }
     ensures group { IfOk result (λ closed. closed_of closed ≡ group_here pool.now live) }
     ensures in_range { IfOk result (λ closed. IsInRange pool.now (closed_of closed)) }
@@ -58,10 +58,6 @@ pub fn ended(
     ensures still { OnErr result (note.new.lanes.items ≡ []) }
 {
     let (closed, answers, fresh) = closed(alloc, pool, live, pool.sealed + 1)?;
-    // The numbers of a group of writes are in their ranges, since the pool's are; the test says so to the caller.
-    if !is_in_range(pool, &closed) {
-        return Err(AllocError);
-    }
     note_lane(note, commands, answers, fresh, faults)?;
     Ok(closed)
 }

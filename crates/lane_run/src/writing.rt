@@ -14,7 +14,7 @@ use disk_model::Disk;
 use pool_model::{Block, Command, Mode, Payload, Verb};
 use reserved_list::ReservedList;
 use std::alloc::{AllocError, Global};
-use table_state::Pool;
+use table_state::{Pool, key_fits};
 
 /// Whether a lane in this mode names keys of the table.
 fn uses_table(mode: Mode) -> bool
@@ -45,6 +45,7 @@ fn write<D: Disk, K: KeyOf>(
     ensures { IfOk result (λ next. IsWritten (D.state disk.now).seen (K.keying keyer.now).key_of pool.now moment place slot block.items (D.meter_faults meter.old) (D.meter_faults meter.new) live next) }
 {
     let key = keyer.key(block.as_slice());
+    key_fits(key);
     let row = chosen(
         pool,
         disk,

@@ -1,9 +1,9 @@
-ghost use Rattle.std.specs.Prelude.{◌≡◌, ◌≤◌, length};
+ghost use Rattle.std.specs.Prelude.{◌≡◌, ◌≤◌, length, IfSome};
 ghost use Rattle.std.specs.Option.{option_map, option_copied};
 ghost use Rattle.pool_model.specs.declared.notes.Outcome.TheVariants as outcomes;
 ghost use Rattle.pool_model.specs.Plain.{part_of, told_of};
-ghost use Rattle.pool_model.specs.Text.{kind_word, group_text};
-ghost use Rattle.report.specs.ItemText.{bare_text, text_of, TextIsOfPool};
+ghost use Rattle.pool_model.specs.Text.{group_text, noted_text};
+ghost use Rattle.report.specs.ItemText.{group_in, item_word, text_of, TextIsOfPool};
 ghost use Rattle.report.specs.Writes.{Wrote};
 
 use crate::lanes::write_lanes;
@@ -14,7 +14,7 @@ use pool_model::{GroupNote, Item, Outcome, Stats};
 
 /// The word for an item.
 fn kind_name(item: &Item) -> &'static str
-    ensures name { result.now ≡ kind_word (part_of item.now) }
+    ensures name { result.now ≡ item_word (part_of item.now) }
     ensures short { length result.now ≤ 20 }
 {
     match item {
@@ -30,8 +30,9 @@ fn kind_name(item: &Item) -> &'static str
 
 /// Writes the text of a group that was sealed.
 fn write_sealed<W: Sink>(out: &mut W, item: &Item, note: &GroupNote) -> Result<(), Failed>
-    ensures { Wrote (W.written out.old) (W.written out.new) (W.faults out.old) (W.faults out.new)
-        (group_text (part_of item.now) (told_of note.now) outcomes.Sealed) result }
+    ensures { IfSome (group_in (part_of item.now)) (λ group.
+        Wrote (W.written out.old) (W.written out.new) (W.faults out.old) (W.faults out.new)
+        (group_text group (told_of note.now) outcomes.Sealed) result) }
 {
     let kind = Word::Text(kind_name(item));
     let number = Word::Number(note.number);
@@ -48,10 +49,11 @@ fn write_sealed<W: Sink>(out: &mut W, item: &Item, note: &GroupNote) -> Result<(
     }
 }
 
-/// Writes the text of a group.
+/// Writes the text of a group that ended.
 fn write_group<W: Sink>(out: &mut W, item: &Item, note: &GroupNote) -> Result<(), Failed>
-    ensures { Wrote (W.written out.old) (W.written out.new) (W.faults out.old) (W.faults out.new)
-        (group_text (part_of item.now) (told_of note.now) note.now.outcome) result }
+    ensures { IfSome (group_in (part_of item.now)) (λ group.
+        Wrote (W.written out.old) (W.written out.new) (W.faults out.old) (W.faults out.new)
+        (group_text group (told_of note.now) note.now.outcome) result) }
 {
     match note.outcome {
         Outcome::Sealed => write_sealed(out, item, note),
@@ -69,27 +71,20 @@ fn write_group<W: Sink>(out: &mut W, item: &Item, note: &GroupNote) -> Result<()
     }
 }
 
-/// Writes the text of an item without a note.
-fn write_bare<W: Sink>(
-    out: &mut W,
-    item: &Item,
-    stats: &Stats,
-    group: u64,
-    quota: Option<u64>,
-) -> Result<(), Failed>
-    ensures { Wrote (W.written out.old) (W.written out.new) (W.faults out.old) (W.faults out.new)
-        (bare_text (part_of item.now) stats.now group quota) result }
+/// Writes the text of a group by its note, and nothing without one.
+fn write_noted<W: Sink>(out: &mut W, item: &Item, note: Option<&GroupNote>) -> Result<(), Failed>
+    ensures { IfSome (group_in (part_of item.now)) (λ group.
+        Wrote (W.written out.old) (W.written out.new) (W.faults out.old) (W.faults out.new)
+        (noted_text group (option_map told_of (option_copied note.entry))) result) }
 {
-    match item {
-        Item::Create => write_number(out, "create", 1),
-        Item::Stat => write_stat(out, stats, group, quota),
-        Item::Import => write_number(out, "import", group),
-        Item::Lanes(_) | Item::Prune { .. } | Item::Quota(_) | Item::SetMode { .. } => Ok(()),
+    match note {
+        Some(note) => write_group(out, item, note),
+        None => Ok(()),
     }
 }
 
 /// Writes the text of an item that ended: of a group by its note, of any other item by the statistics,
-/// the group and the quota of the pool that stood after it. Takes no memory. The error is a write that
+/// the group and the quota of the pool that stands after it. Takes no memory. The error is a write that
 /// failed, after which some front of the text has been written.
 pub fn write_item<W: Sink>(
     out: &mut W,
@@ -103,9 +98,13 @@ pub fn write_item<W: Sink>(
         (text_of (part_of item.now) (option_map told_of (option_copied note.entry))
         stats.now group quota) result }
 {
-    match note {
-        Some(note) => write_group(out, item, note),
-        None => write_bare(out, item, stats, group, quota),
+    match item {
+        Item::Create => write_number(out, "create", 1),
+        Item::Stat => write_stat(out, stats, group, quota),
+        Item::Import => write_number(out, "import", group),
+        Item::Lanes(_) | Item::Prune { .. } | Item::Quota(_) | Item::SetMode { .. } => {
+            write_noted(out, item, note)
+        }
     }
 }
 

@@ -18,6 +18,7 @@ mod stat;
 mod words;
 
 pub use item::{text_is_of_pool, write_item};
+pub use stat::NO_STATS;
 
 #[cfg(test)]
 mod tests;

@@ -5,7 +5,25 @@ ghost use Rattle.report.specs.Writes.{Wrote};
 
 use crate::words::{Word, write_line};
 use io_model::{Failed, Sink};
-use pool_model::{Bucket, Stats};
+use pool_model::{BUCKETS, Bucket, Stats};
+
+/// No statistics, for the text of an item that tells none.
+pub const NO_STATS: Stats = Stats {
+    keys: 0,
+    unique: 0,
+    duplicate: 0,
+    refs: 0,
+    loose: 0,
+    plain: 0,
+    allocated: 0,
+    referenced: 0,
+    buckets: [Bucket {
+        low: 0,
+        keys: 0,
+        allocated: 0,
+        referenced: 0,
+    }; BUCKETS],
+};
 
 /// Writes a number under its name.
 pub(crate) fn write_number<W: Sink>(

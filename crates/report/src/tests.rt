@@ -1,4 +1,4 @@
-use crate::write_item;
+use crate::{NO_STATS, write_item};
 use io_model::{Failed, MemSink};
 use pool_model::{
     BUCKETS, Bucket, Command, CommandAnswer, FreeAnswer, GroupNote, Item, Kind, LaneNote,
@@ -93,10 +93,6 @@ fn stats_of(sums: [u64; 8], used: &[(usize, u64, u64, u64)]) -> Stats {
     }
 }
 
-fn no_stats() -> Stats {
-    stats_of([0; 8], &[])
-}
-
 #[test]
 fn a_lanes_group_tells_each_command_lane_by_lane(rt: HostRuntime) -> Result<(), Fail> {
     let alloc = rt.alloc();
@@ -144,7 +140,7 @@ fn a_lanes_group_tells_each_command_lane_by_lane(rt: HostRuntime) -> Result<(), 
     let mut out = MemSink::new(alloc, Vec::new(alloc));
     let item = lanes_group(commands);
     let note = group_note(2, Outcome::Sealed, 0, lanes);
-    let result = write_item(&mut out, &item, Some(&note), &no_stats(), 2, None);
+    let result = write_item(&mut out, &item, Some(&note), &NO_STATS, 2, None);
     assert_eq!(rt; result, Ok(()));
     let want = "group 2 sealed\n\
         0 write 1 new\n\
@@ -203,7 +199,7 @@ fn each_group_tells_its_number_and_outcome(rt: HostRuntime) -> Result<(), Fail> 
     for (item, number, outcome, taken, want) in rows {
         let mut out = MemSink::new(alloc, Vec::new(alloc));
         let note = group_note(number, outcome, taken, Vec::new(alloc));
-        let result = write_item(&mut out, item, Some(&note), &no_stats(), 1, None);
+        let result = write_item(&mut out, item, Some(&note), &NO_STATS, 1, None);
         assert_eq!(rt; result, Ok(()), "{want}");
         assert_eq!(rt; out.bytes(), want.as_bytes(), "{want}");
     }
@@ -231,9 +227,9 @@ fn each_other_item_tells_the_numbers_of_the_pool(rt: HostRuntime) -> Result<(), 
     let rows = [
         (&stat, &one_key, 2, None, of_one_key),
         (&stat, &two_buckets, 4, Some(u64::MAX), of_two_buckets),
-        (&stat, &no_stats(), 1, Some(0), of_no_key),
+        (&stat, &NO_STATS, 1, Some(0), of_no_key),
         (&Item::Import, &one_key, 18, None, "import 18\n"),
-        (&Item::Create, &no_stats(), 1, None, "create 1\n"),
+        (&Item::Create, &NO_STATS, 1, None, "create 1\n"),
         (&quota, &one_key, 2, None, ""),
     ];
     for (item, stats, group, limit, want) in rows {
@@ -255,7 +251,7 @@ fn a_whole_block_is_told_in_hex(rt: HostRuntime) -> Result<(), Fail> {
         let mut out = MemSink::new(alloc, Vec::new(alloc));
         let item = lanes_group(commands);
         let note = group_note(2, Outcome::Sealed, 0, lanes);
-        let result = write_item(&mut out, &item, Some(&note), &no_stats(), 2, None);
+        let result = write_item(&mut out, &item, Some(&note), &NO_STATS, 2, None);
         assert_eq!(rt; result, Ok(()), "of {count} bytes");
         let mut want = Vec::from_slice(alloc, b"group 2 sealed\n0 read 1 bytes ")?;
         for _ in 0..count {
@@ -285,7 +281,7 @@ fn a_failed_write_leaves_the_lines_before_it(rt: HostRuntime) -> Result<(), Fail
         let mut out = MemSink::new(alloc, vec![in alloc; failing]?);
         let item = lanes_group(commands);
         let note = group_note(2, Outcome::Sealed, 0, lanes);
-        let result = write_item(&mut out, &item, Some(&note), &no_stats(), 2, None);
+        let result = write_item(&mut out, &item, Some(&note), &NO_STATS, 2, None);
         assert_eq!(rt; result, Err(Failed), "at write {failing}");
         assert_eq!(rt; out.bytes(), want.as_bytes(), "at write {failing}");
     }

@@ -37,6 +37,6 @@ pub use pool::{Pool, SlotList};
 pub use seal_form::{LAST_GROUP, MOST_SECTORS, is_formed, new_seal};
 pub use setting::{byte_of, mode_of, modes_read_back};
 pub use slot_record::{
-    SLOT_RECORD_BYTES, SlotRecord, read_slot, slot_fits, slots_by_the_table, slots_read_back,
-    write_slot,
+    SLOT_RECORD_BYTES, SlotRecord, key_fits, read_slot, slot_fits, slots_by_the_table,
+    slots_read_back, write_slot,
 };

@@ -141,7 +141,7 @@ pub fn write_slot(held: &SlotRecord) -> [u8; SLOT_RECORD_BYTES]
 }
 
 /// A key by value fits, since its types say so.
-fn key_fits(key: Key)
+pub fn key_fits(key: Key)
     ensures { KeyFits key }
 {}
 

@@ -5,7 +5,11 @@ use Rattle.grant_book.specs.Sectors.{AreFirstFree}
 use Rattle.pool_model.specs.Plain.{task_of}
 use Rattle.lane_run.specs.Going.{HasRun}
 use Rattle.table_state.specs.Pools.{Held}
-use Rattle.lane_run.proofs.Lanes.{run_over, run_none}
+use Rattle.table_state.specs.Closing.{IsInRange}
+use Rattle.lane_run.specs.Live.{Live, group_here}
+use Rattle.lane_run.proofs.InRange.{in_range}
+use Rattle.lane_run.proofs.Lanes.{opened_ranged, run_over, run_none}
+use Rattle.lane_run.proofs.Opened.{live_opened}
 use Rattle.lane_run.proofs.beginning.begun.Goals as goal
 
 pub returns-then-is_empty-clause-run : goal.returns-then-is_empty-clause-run
@@ -19,3 +23,9 @@ returns-then-is_empty-clause-run g c =
           (subst (HasRun (g.D.Disk.state c.args.disk.now).seen (g.K.KeyOf.keying c.args.keyer.now).key_of c.args.pool.now c.args.moment (map task_of c.args.commands.now) c.in-Some.places.items 0 0) (sym c.in-Ok-opened.ensures)
           (run_none (g.D.Disk.state c.args.disk.now).seen (g.K.KeyOf.keying c.args.keyer.now).key_of c.args.pool.now c.args.moment c.args.commands.now c.in-Some.places.items c.in-Ok-counted_keys.keys c.in-Ok-counted_keys.ensures.keys none)),
     )
+
+pub returns-then-is_empty-clause-in_range : goal.returns-then-is_empty-clause-in_range
+returns-then-is_empty-clause-in_range g c =
+    subst (λ (live : Live). IsInRange c.args.pool.now (group_here c.args.pool.now live)) (sym c.in-Ok-opened.ensures)
+    (in_range c.args.pool.now c.in-Some.places.items c.in-Ok-counted_keys.keys 0 (live_opened c.in-Ok-counted_keys.keys) c.requires.sound
+    (opened_ranged c.args.pool.now c.in-Some.places.items c.in-Ok-counted_keys.keys))

@@ -4,13 +4,18 @@ use Rattle.pool_model.specs.Plain.{stored_of}
 use Rattle.pool_model.specs.Command.{Known}
 use Rattle.home_rules.specs.Rows.{row_of}
 use Rattle.lane_run.specs.Live.{sector_here, known_by}
-use Rattle.lane_run.proofs.Choices.{verified_home, verified_counts, verified_is}
+use Rattle.lane_run.proofs.Choices.{verified_home, verified_since, verified_counts, verified_is}
 use Rattle.lane_run.proofs.choosing.verified.Goals as goal
 
 pub returns-in_default-clause-home : goal.returns-in_default-clause-home
 returns-in_default-clause-home g c =
     let key_of = (g.K.KeyOf.keying c.args.keyer.now).key_of in
     verified_home key_of c.args.content.now c.args.allowed c.args.moment c.args.home None (row_of c.verified_row.result) (sym c.in_default.is) (c.verified_row.ensures key_of None c.args.content.now refl tt)
+
+pub returns-in_default-clause-since : goal.returns-in_default-clause-since
+returns-in_default-clause-since g c =
+    let key_of = (g.K.KeyOf.keying c.args.keyer.now).key_of in
+    verified_since key_of c.args.content.now c.args.allowed c.args.moment c.args.home None (row_of c.verified_row.result) (sym c.in_default.is) (c.verified_row.ensures key_of None c.args.content.now refl tt)
 
 pub returns-in_default-clause-counts : goal.returns-in_default-clause-counts
 returns-in_default-clause-counts g c =
@@ -23,6 +28,13 @@ returns-clause-home g c =
     let key_of = (g.K.KeyOf.keying c.args.keyer.now).key_of in
     let known : Option Known = Some (record { home = c.in-Some.found; block = take (length c.args.content.now) c.in-Ok.sector }) in
     verified_home key_of c.args.content.now c.args.allowed c.args.moment c.args.home known (row_of c.verified_row-2.result) (sym c.in-Some.is)
+    (c.verified_row-2.ensures key_of known c.args.content.now refl (rw (c.eq-has_key.ensures, c.key.ensures, c.key-2.ensures) refl, sym c.eq-same.ensures))
+
+pub returns-clause-since : goal.returns-clause-since
+returns-clause-since g c =
+    let key_of = (g.K.KeyOf.keying c.args.keyer.now).key_of in
+    let known : Option Known = Some (record { home = c.in-Some.found; block = take (length c.args.content.now) c.in-Ok.sector }) in
+    verified_since key_of c.args.content.now c.args.allowed c.args.moment c.args.home known (row_of c.verified_row-2.result) (sym c.in-Some.is)
     (c.verified_row-2.ensures key_of known c.args.content.now refl (rw (c.eq-has_key.ensures, c.key.ensures, c.key-2.ensures) refl, sym c.eq-same.ensures))
 
 pub returns-clause-counts : goal.returns-clause-counts
