@@ -1,12 +1,7 @@
 -- What every item of a good command file keeps to.
 use Rattle.std.specs.Prelude.{◌≡◌, ◌^◌, ◌<◌, ◌≤◌, List, length, ⊤}
 use Rattle.std.specs.List.{AllByRecursion}
-use Rattle.pool_model.specs.Plain.{Act, write, Task, lanes, Part, of_group, stat, «import»}
-
--- a block of 1 to 4,096 bytes is written
-abbrev pub WritesBlock : Act → Type 0
-WritesBlock (write content) = (0 < length content) × (length content ≤ 4096)
-WritesBlock act = ⊥
+use Rattle.pool_model.specs.Plain.{WritesBlock, Task, lanes, Part, of_group, stat, «import»}
 
 -- a write of a block into a slot of lane 0
 abbrev pub IsWrite : Task → Type 0

@@ -15,7 +15,7 @@ use Rattle.disk_model.specs.Images.{Image, sector_at}
 use Rattle.grant_book.specs.Sectors.{AreFirstFree}
 use Rattle.pool_model.specs.Pool.{Pool, Pointer, with_key, Pairwise, IsApart, IsWellFormed, run_length}
 use Rattle.pool_model.specs.Table.{TableState, Matches, found, sync_table, waiting_in, flush_limit, IsApartFrom, IsTable, AreChangesRising}
-use Rattle.pool_model.specs.Plain.{Act, write, read, free, Task, Reply, Stored}
+use Rattle.pool_model.specs.Plain.{WritesBlock, Act, write, read, free, Task, Reply, Stored}
 use Rattle.pool_model.specs.Clash.{contents_in}
 use Rattle.pool_model.specs.Command.{Opening, Turn, Course, known_home}
 use Rattle.pool_model.specs.Group.{Standing, opening_of, IsFree, AreFresh, change_of, changes_of, change_from, settled, block_or}
@@ -47,7 +47,7 @@ use Rattle.pool_model.proofs.Aside.{before_opened}
 use Rattle.pool_model.proofs.Going.{IsGoing, going_all, going_matches}
 use Rattle.pool_model.proofs.Writing.{kept_formed, written_all, written_waits}
 use Rattle.table_state.specs.Holding.{StandsOver}
-use Rattle.lane_run.specs.Groups.{IsFirstWrite, WritesBlock}
+use Rattle.lane_run.specs.Groups.{IsFirstWrite}
 use Rattle.pool_model.proofs.Syncing.{sync_keeps}
 use Rattle.pool_model.proofs.Lists.{all_in, all_from}
 use Rattle.lane_run.specs.Going.{IsCourse, IsPlaced, Stands, Trusted, turns_from, first_course}
@@ -205,7 +205,7 @@ module _ (key_of : List ℕ → Key) (image : Image) (held : Held) (s : Standing
   goes = going_all held.sectors opening s.pool (block_places live.contents ∷ replicate 15 []) turns refl well matched fresh_by_key
 
   after_well : IsWellFormed held.sectors after
-  after_well = kept_formed held.sectors (IsUnnamedByKey held.sectors s.pool (found s.table)) opening course goes.kept
+  after_well = kept_formed held.sectors (IsUnnamedByKey held.sectors s.pool (found s.table)) opening s.pool (block_places live.contents ∷ replicate 15 []) turns well goes.kept
 
   after_by_key : MatchesByKey held.sectors after (λ key. home_after opening course (found s.table key) key)
   after_by_key =

@@ -20,7 +20,6 @@ use Rattle.table_state.specs.Flat.{IsWithin, IsChangeWithin}
 use Rattle.table_state.specs.Tables.{IsTableWithin}
 use Rattle.table_state.specs.Pools.{Held}
 use Rattle.table_state.specs.Sound.{IsSound, HasKeyLengths}
-use Rattle.table_state.proofs.TableBack.{is_table_in}
 use Rattle.table_state.proofs.UsedLaws.{waiting_runs}
 use Rattle.table_state.proofs.SoundOf.{held_sound}
 use Rattle.table_state.proofs.UnusedOf.{unused_free}
@@ -96,9 +95,7 @@ found_within sectors group table key home within is =
 
 module _ (image : Image) (held : Held) (s : Standing) (over : StandsOver image held s) where
   pub table_sorted : IsTable s.table
-  table_sorted =
-      subst IsTable (sym over.is_held.stands.table_is)
-      (is_table_in over.is_held.stands.seal over.is_held.stands.flat over.is_held.stands.whole)
+  table_sorted = over.is_held.stands.matches.sorted
 
   pub pool_sound : IsSound held
   pool_sound = held_sound image held s.pool s.table over.is_held
@@ -140,7 +137,7 @@ module _ (image : Image) (held : Held) (s : Standing) (over : StandsOver image h
       sym (used_either held.used home.place (omega (arith, used_length, (home_within key home is).end))) ∙ waiting_used key home is zero
 
   pub homes_match : HomesMatch s.pool (found s.table)
-  homes_match = matches_read s.pool s.table table_sorted over.is_held.stands.matches
+  homes_match = matches_read s.pool s.table over.is_held.stands.matches
 
   -- the pool is well formed on the disk's sectors, and its homes match it key by key
   pub formed : IsWellFormed held.sectors s.pool

@@ -17,7 +17,7 @@ use Rattle.pool_model.specs.declared.commands.Mode.{Mode}
 use Rattle.pool_model.specs.declared.commands.Mode.TheVariants.{Off, On, Verify}
 use Rattle.pool_model.specs.declared.notes.Outcome.TheVariants.{NoSpace}
 use Rattle.pool_model.specs.Pool.{mode_of}
-use Rattle.pool_model.specs.Plain.{Act, write, read, free, Task, Reply, Told, lanes}
+use Rattle.pool_model.specs.Plain.{WritesBlock, Act, write, read, free, Task, Reply, Told, lanes}
 use Rattle.pool_model.specs.Space.{need, space_lacking, changes_in, writes_in, is_write, is_free_act}
 use Rattle.pool_model.specs.Table.{flush_limit}
 use Rattle.pool_model.specs.Clash.{HasNoOther, contents_in, is_on}
@@ -28,7 +28,7 @@ use Rattle.pool_model.specs.Run.{noted_course, AnswersAsRun, sealed_standing}
 use Rattle.table_state.specs.Pools.{Held}
 use Rattle.table_state.specs.Closing.{block_places}
 use Rattle.table_state.specs.Holding.{StandsOver}
-use Rattle.lane_run.specs.Groups.{IsFirstWrite, WritesBlock, HasNoClash, KeepsWaiting, IsRunFrom}
+use Rattle.lane_run.specs.Groups.{IsFirstWrite, HasNoClash, KeepsWaiting, IsRunFrom}
 use Rattle.lane_run.specs.Going.{IsCourse, Trusted, turns_from, first_course, HasRun, HasRunOver, Opens, lanes_here}
 use Rattle.lane_run.specs.Live.{Live, first_mode, group_here}
 use Rattle.lane_run.proofs.Leaving.{fresh_given, table_is, pool_stands, can_sync, keeps_waiting, stays_waiting}

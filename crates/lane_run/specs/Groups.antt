@@ -1,10 +1,10 @@
 -- What running a group comes to, and what the closed group makes of it.
-use Rattle.std.specs.Prelude.{◌≡◌, ℕ, ◌<◌, ◌≤◌, true, List, [], length, take, slice_index_or, Some}
+use Rattle.std.specs.Prelude.{◌≡◌, ℕ, ◌<◌, ◌≤◌, true, List, [], take, slice_index_or, Some}
 use Rattle.std.specs.List.{AllByRecursion}
 use Rattle.disk_model.specs.Images.{Image, sector_at}
 use Rattle.ddt_entry.specs.declared.key.Key.{Key}
 use Rattle.ddt_entry.specs.declared.entry.Home.{Home}
-use Rattle.pool_model.specs.Plain.{Act, write, read, free, Task, lanes, Told}
+use Rattle.pool_model.specs.Plain.{WritesBlock, Task, lanes, Told}
 use Rattle.pool_model.specs.Table.{found}
 use Rattle.pool_model.specs.Clash.{HasNoOther, group_trusted, contents_in}
 use Rattle.pool_model.specs.Group.{Standing, Rules, AreFresh, IsFree}
@@ -14,11 +14,6 @@ use Rattle.table_state.specs.Closing.{PlainClosed, CanSync, pool_with, table_aft
 use Rattle.table_state.specs.Pools.{Held}
 
 -- for now a group has writes of lane 0, each of a block of 1 to 4,096 bytes
-abbrev pub WritesBlock : Act → Type 0
-WritesBlock (write content) = (0 < length content) × (length content ≤ 4096)
-WritesBlock read = ⊥
-WritesBlock free = ⊥
-
 pub record IsFirstWrite (task : Task) : Type 0 where
   pub lane : task.lane ≡ 0
   pub slot : task.slot < 65536

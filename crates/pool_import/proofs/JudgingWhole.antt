@@ -4,16 +4,18 @@ use Rattle.std.specs.Prelude.{nat_lt, sum_by}
 use Rattle.std.specs.List.{AllByRecursion, list_any, list_all}
 use Rattle.std.proofs.lemmas.Bool.{false≢true}
 use Rattle.std.proofs.lemmas.Bool.Decides.{nat_tests}
+use Rattle.std.proofs.lemmas.List.{length-map}
 use Rattle.ddt_entry.specs.Records.{IsKeyLength}
 use Rattle.ddt_entry.specs.declared.entry.Entry.{Entry}
 use Rattle.disk_model.specs.Images.{Image}
 use Rattle.grant_book.specs.Sectors.{marked, ring_used}
 use Rattle.grant_book.proofs.MarkLaws.{length-marked, marked-at, length-ring_used, ring_used-at}
 use Rattle.uber_ring.specs.declared.seal.Seal.{Seal}
-use Rattle.pool_model.specs.Pool.{Pool, Pointer, Pairwise, IsApart, run_length, LiesWithin, is_at}
+use Rattle.pool_model.specs.Pool.{Pool, Pointer, Pairwise, IsApart, run_length, LiesWithin, is_at, comes_before}
 use Rattle.pool_model.specs.Table.{TableState, IsApartFrom, waiting_in, entries_found, counted_homes, IsTable}
 use Rattle.pool_model.specs.Space.{used_sectors}
 use Rattle.table_state.specs.Flat.{Flat, HoldTogether, IsWithin, IsChangeWithin, IsClear, table_in, pool_in, pointer_of}
+use Rattle.table_state.specs.SealForms.{mode_in}
 use Rattle.table_state.specs.SlotRecords.{is_slot}
 use Rattle.table_state.specs.Sound.{HasLength}
 use Rattle.table_state.specs.Tables.{IsTableWithin}
@@ -82,6 +84,7 @@ pub record Grounds (seal : Seal) (flat : Flat) : Type 0 where
   pub lengths : HasLengths flat
   pub sorted : IsTable (table_in seal flat)
   pub within : IsTableWithin seal.sectors seal.group (table_in seal flat)
+  pub modes : length seal.modes ≡ 16
 
 -- each home that the table finds has such a place
 found_roomed : (seal : Seal) (flat : Flat) → Grounds seal flat → AllByRecursion (IsRoomed seal.sectors) (entries_found (table_in seal flat))
@@ -268,11 +271,14 @@ module _ (seal : Seal) (flat : Flat) (grounds : Grounds seal flat) where
         let alone : AllByRecursion IsAlone waiting = all_alone took.free in (
           record {
             well_formed = record {
+              rising = pairs_map (λ p q. comes_before p q ≡ true) (pointer_of image table) flat.slots grounds.together.slots_rising;
+              modes = length-map seal.modes mode_in ∙ grounds.modes;
               together = together_if_apart table seal.sectors seal.group pool.pointers sound slots_apart
                   (subst (Pairwise (λ a b. go_apart a b ≡ true)) (sym same_spots) (apart_if_owned spots seal.sectors spots_within passed.owned));
               within = all_from (IsInOrder table seal.sectors seal.group) (LiesWithin seal.sectors seal.group) (λ p is. within_of seal.sectors seal.group p is.ranged) pool.pointers sound;
             };
             matches = record {
+              sorted = grounds.sorted;
               homes = homes_if_counted pool table grounds.sorted known (ap (λ (l : List Spot). list_all (is_counted l) (counted_homes table)) same_spots ∙ passed.are_counted);
               waiting = all_from IsAlone (λ (e : Entry). AllByRecursion (IsApartFrom e) pool.pointers) (λ e is. is.pointers) waiting alone;
               apart = waits_apart took.differ;

@@ -25,7 +25,7 @@ use ddt_entry::Entry;
 use grant_book::SectorSet;
 use plain_table::PlainTable;
 use std::alloc::{AllocError, Global};
-use uber_ring::Seal;
+use uber_ring::{Seal, seal_fits};
 
 /// Whether the whole keeps its rules; where it does, which sectors are used. The error is want of memory.
 pub fn judge(
@@ -45,6 +45,7 @@ pub fn judge(
         × (used ≡ used_sectors seal.now.sectors flat.now.named (pool_in image seal.now flat.now) (table_in seal.now flat.now)))) }
     ensures broken { IfOk result (λ found. IfNone found ((image : Image) → IsWhole image seal.now flat.now → ⊥)) }
 {
+    seal_fits(*seal);
     judged(alloc, seal, flat, table)
 }
 

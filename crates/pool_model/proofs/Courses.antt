@@ -162,6 +162,7 @@ pub kept_opened : (sectors number : ℕ) (pool : Pool) (before : Key → Option 
     → MatchesByKey sectors pool before
     → IsKept sectors number (IsUnnamedByKey sectors pool before) [] pool.pointers before
 kept_opened sectors number pool before later formed matched = record {
+  rising = formed.rising;
   pairs = formed.together;
   within = all_from (LiesWithin sectors pool.group) (LiesWithin sectors number)
       (λ p lies. record { start = lies.start; end = lies.end; birth = omega (arith, lies.birth, later) }) pool.pointers formed.within;

@@ -3,8 +3,9 @@ use Rattle.std.specs.Prelude.{◌≡◌, ℕ, ◌≤◌, true, false, List, slic
 use Rattle.std.specs.Option.{option_map_or}
 use Rattle.std.proofs.Common.{refl, ap, inl, inr, rules, arith}
 use Rattle.pool_model.proofs.OnLiterals.{pool_on_literals}
+use Rattle.ddt_entry.specs.declared.key.Key.{Key}
 use Rattle.ddt_entry.specs.declared.entry.Home.{Home}
-use Rattle.pool_model.specs.WorkedFacts.{RefusedFiles, EdgeFile, ReadFiles, Limits, Digests, Needs, Premise, HoldTogether, Counted, one_key, entry}
+use Rattle.pool_model.specs.WorkedFacts.{RefusedFiles, EdgeFile, ReadFiles, Limits, Digests, Needs, Premise, HoldTogether, Contents, Counted, Sorted, one_key, entry}
 
 pub refused_files : RefusedFiles
 unfolding pool_on_literals
@@ -62,14 +63,45 @@ hold_together = record {
   in_ring = λ h. (let e : 32 ≤ 31 = h.within.0.start in omega arith);
   past_end = λ h. (let e : 2049 ≤ 2048 = h.within.0.end in omega arith);
   later_born = λ h. (let e : 3 ≤ 2 = h.within.0.birth in omega arith);
+  out_of_order = λ h. (let e : false ≡ true = h.rising.0.0 in cc);
+  few_modes = λ h. (let e : 15 ≡ 16 = h.modes in omega arith);
+}
+
+pub contents : Contents
+contents = record {
+  longest = search rules;
+  nothing = λ h. (let e : 1 ≤ 0 = h.0 in omega arith);
+  too_long = λ h. (let e : 4097 ≤ 4096 = h.1 in omega arith);
+  own_bytes = refl;
+  other_bytes = λ h. (let e : 98 ≡ 97 = ap (λ (key : Key). slice_index key.digest 0) h in omega arith);
 }
 
 pub counted : Counted
 counted = record {
-  both = record { homes = λ key. grind arith; waiting = search rules; apart = search rules };
+  both = record { sorted = search rules; homes = λ key. grind arith; waiting = search rules; apart = search rules };
   one_lost = λ h. (let e : 1 ≡ 2 = ap (λ (home : Option Home). option_map_or (λ x. x.count) home 0) (h.homes one_key) in omega arith);
   elsewhere = λ h. (let e : 32 ≡ 33 = ap (λ (home : Option Home). option_map_or (λ x. x.place) home 0) (h.homes one_key) in omega arith);
   left_over = λ h. (let e : Some (entry 32 1).home ≡ None = h.homes one_key in cc);
-  waiting = record { homes = λ key. grind arith; waiting = search rules; apart = search rules };
+  waiting = record { sorted = search rules; homes = λ key. grind arith; waiting = search rules; apart = search rules };
   place_taken = λ h. elim h.waiting.0.0 as (λ x. ⊥) [ inl e ↦ omega arith | inr e ↦ omega arith ];
+  uncounted_stored = λ h. (let e : false ≡ true = h.sorted.zap_counted.0 in cc);
+}
+
+pub sorted : Sorted
+sorted = record {
+  three_lists = record {
+    zap_rising = search rules;
+    zap_counted = search rules;
+    flush_rising = search rules;
+    active_rising = search rules;
+    logs_apart = search rules;
+    past = search rules;
+  };
+  stored_falls = λ h. (let e : false ≡ true = h.zap_rising.0.0 in cc);
+  stored_twice = λ h. (let e : false ≡ true = h.zap_rising.0.0 in cc);
+  active_falls = λ h. (let e : false ≡ true = h.active_rising.0.0 in cc);
+  flushing_falls = λ h. (let e : false ≡ true = h.flush_rising.0.0 in cc);
+  in_both = λ h. (let e = h.logs_apart.0 in cc);
+  uncounted = λ h. (let e : false ≡ true = h.zap_counted.0 in cc);
+  flushed_already = λ h. (let e : false ≡ true = h.past.0 in cc);
 }

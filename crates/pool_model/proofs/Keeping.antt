@@ -1,13 +1,14 @@
 -- What every turn of a course keeps, of any pointers, homes and runs: and that it is kept when a pointer is put into a slot.
-use Rattle.std.proofs.Common.{◌≡◌, ℕ, ◌+◌, ◌≤◌, false, List, [], length, filter, Option, Some, None, sym, ap, ◌∙◌}
+use Rattle.std.proofs.Common.{◌≡◌, ℕ, ◌+◌, ◌≤◌, true, false, List, [], length, filter, Option, Some, None, sym, ap, ◌∙◌}
 use Rattle.std.specs.List.{AllByRecursion}
 use Rattle.ddt_entry.specs.declared.key.Key.{Key}
 use Rattle.ddt_entry.specs.declared.entry.Home.{Home}
 use Rattle.ddt_entry.specs.Keys.{key_eq}
-use Rattle.pool_model.specs.Pool.{Pointer, Pairwise, IsApart, GoTogether, LiesWithin, run_length, tracks, insert_pointer}
+use Rattle.pool_model.specs.Pool.{Pointer, Pairwise, IsApart, GoTogether, LiesWithin, run_length, tracks, is_at, comes_before, insert_pointer}
 use Rattle.pool_model.specs.Table.{counted, IsApartFrom}
-use Rattle.pool_model.proofs.Pointers.{all_insert, pairs_insert, none_insert, together_turned}
+use Rattle.pool_model.proofs.Pointers.{all_insert, pairs_insert, rising_insert, none_insert, together_turned}
 use Rattle.pool_model.proofs.Homes.{left_after}
+use Rattle.pool_model.proofs.Lists.{all_from}
 
 -- a home that waits: no pointer of its key is counted, and it is left
 pub record Waits (ps : List Pointer) (left : Key → Option Home) (key : Key) (home : Home) : Type 0 where
@@ -32,6 +33,7 @@ pub record HomeWithin (sectors number : ℕ) (key : Key) (home : Home) : Type 0 
 -- what each turn keeps
 pub record IsKept (sectors number : ℕ) (unnamed : (place length : ℕ) → Type 0) (given : List (ℕ × ℕ)) (ps : List Pointer)
     (left : Key → Option Home) : Type 0 where
+  pub rising : Pairwise (λ p q. comes_before p q ≡ true) ps
   pub pairs : Pairwise GoTogether ps
   pub within : AllByRecursion (LiesWithin sectors number) ps
   pub uncounted : (key : Key) → filter (tracks key) ps ≡ [] → counted (left key) ≡ None
@@ -70,6 +72,8 @@ module _ (p : Pointer) (ps : List Pointer) (left later : Key → Option Home)
       → IsKept sectors number unnamed given ps left → CanJoin sectors number unnamed more ps left p
       → IsKept sectors number unnamed more (insert_pointer p ps) later
   put_kept sectors number unnamed given more longer kept joins = record {
+    rising = rising_insert p ps (all_from (GoTogether p) (λ q. is_at p.lane p.slot q ≡ false) (λ q together. together.slots) ps joins.together)
+        kept.rising;
     pairs = pairs_insert GoTogether together_turned p ps joins.together kept.pairs;
     within = all_insert (LiesWithin sectors number) p ps joins.within kept.within;
     uncounted = λ key none. let before = left_before key none in sym (ap counted before.2) ∙ kept.uncounted key before.1;

@@ -1,13 +1,13 @@
 -- The premise on clashes after a group: a content that has no other of its key before the group has none after it.
-use Rattle.std.proofs.Common.{◌≡◌, ℕ, Bool, true, false, cond, List, [], ◌∷◌, Some, inl, ⊎_elim, map, sym, ap, ◌∙◌}
+use Rattle.std.proofs.Common.{◌≡◌, ℕ, Bool, true, false, cond, List, [], ◌∷◌, Some, inl, ⊎_elim, map, refl, sym, ap, ◌∙◌}
 use Rattle.std.specs.Prelude.{take, ◌&&◌, ◌⊎◌}
 use Rattle.std.specs.List.{AllByRecursion, list_any}
 use Rattle.ddt_entry.specs.Keys.{Keying, key_eq}
 use Rattle.ddt_entry.specs.declared.key.Key.{Key}
 use Rattle.ddt_entry.specs.declared.entry.Home.{Home}
 use Rattle.ddt_entry.specs.declared.entry.Entry.{Entry}
-use Rattle.pool_model.specs.Pool.{Pointer, is_tracked, loose}
-use Rattle.pool_model.specs.Table.{TableState, found, waiting_in}
+use Rattle.pool_model.specs.Pool.{Pointer, IsSound, is_tracked, loose}
+use Rattle.pool_model.specs.Table.{found, waiting_in}
 use Rattle.pool_model.specs.Plain.{Task, GroupItem, lanes, prune, quota, set_mode, Told}
 use Rattle.pool_model.specs.Prune.{loosened, pruned}
 use Rattle.pool_model.specs.Group.{Standing, lanes_in_turn}
@@ -15,7 +15,7 @@ use Rattle.pool_model.specs.Run.{sealed_standing}
 use Rattle.pool_model.specs.Clash.{NoOther, HasNoOther, contents_in, group_contents}
 use Rattle.pool_model.specs.Waiting.{IsIn, AreAmong, WaitedBefore, WaitingStays, WaitsByPointer, WaitingComes}
 use Rattle.pool_model.proofs.Made.{MadeFor, group_makes}
-use Rattle.pool_model.proofs.Lists.{all_from, all_at, all_in, among_all}
+use Rattle.pool_model.proofs.Lists.{all_each, all_from, all_at, among_all}
 
 -- where the key is this waiting home's, the content is its block's bytes
 abbrev NoOtherThere : (List ℕ → Key) → (ℕ → List ℕ) → List ℕ → Entry → Type 0
@@ -58,17 +58,16 @@ clash_comes key_of s after others x comes pointers none = record {
       (waiting_in after.table) comes;
 }
 
--- a pointer that a prune takes keeps its key and its bytes
-loosened_if : (key_of : List ℕ → Key) (x : List ℕ) (b : Bool) (p : Pointer) → NoOtherIn key_of x p
-    → NoOtherIn key_of x (cond b (record p { mark = loose }) p)
-loosened_if key_of x true p none = none
-loosened_if key_of x false p none = none
+-- a pointer that a prune takes keeps its key and its bytes, and so what holds of these
+module _ (Q : Pointer → Type 0) (kept : (p : Pointer) → Q p → Q (record p { mark = loose })) where
+  loosened_if : (b : Bool) (p : Pointer) → Q p → Q (cond b (record p { mark = loose }) p)
+  loosened_if true p here = kept p here
+  loosened_if false p here = here
 
-all_loosened : (key_of : List ℕ → Key) (x : List ℕ) (taken ps : List Pointer) → AllByRecursion (NoOtherIn key_of x) ps
-    → AllByRecursion (NoOtherIn key_of x) (map (loosened taken) ps)
-all_loosened key_of x taken [] all = tt
-all_loosened key_of x taken (p ∷ ps) all =
-    (loosened_if key_of x (is_tracked p.mark && list_any (λ q. key_eq q.key p.key) taken) p all.0, all_loosened key_of x taken ps all.1)
+  all_loosened : (taken ps : List Pointer) → AllByRecursion Q ps → AllByRecursion Q (map (loosened taken) ps)
+  all_loosened taken [] all = tt
+  all_loosened taken (p ∷ ps) all =
+      (loosened_if (is_tracked p.mark && list_any (λ q. key_eq q.key p.key) taken) p all.0, all_loosened taken ps all.1)
 
 module _ (keying : Keying) (s : Standing) (told : Told) (pages : List ℕ) where
   -- a content without another among the pointers from before, and among what the group writes, has none among the pointers after it
@@ -79,9 +78,21 @@ module _ (keying : Keying) (s : Standing) (told : Told) (pages : List ℕ) where
       group_makes (NoOtherIn keying.key_of x) keying s moment tasks told
       (all_from (NoOther keying.key_of x) (MadeFor (NoOtherIn keying.key_of x) keying.key_of)
       (λ content other task place birth mark. other) (contents_in tasks) new) all
-  pointers_kept (prune moment rule) x new all = all_loosened keying.key_of x (pruned s.pool rule moment) s.pool.pointers all
+  pointers_kept (prune moment rule) x new all =
+      all_loosened (NoOtherIn keying.key_of x) (λ p other. other) (pruned s.pool rule moment) s.pool.pointers all
   pointers_kept (quota limit) x new all = all
   pointers_kept (set_mode lane mode) x new all = all
+
+  -- pointers whose keys are those of their contents stay so, and the new ones are
+  pub sound_kept : (item : GroupItem) → AllByRecursion (IsSound keying.key_of) s.pool.pointers
+      → AllByRecursion (IsSound keying.key_of) (sealed_standing (lanes_in_turn keying) s item told pages).pool.pointers
+  sound_kept (lanes moment tasks) all =
+      group_makes (IsSound keying.key_of) keying s moment tasks told
+      (all_each (MadeFor (IsSound keying.key_of) keying.key_of) (λ content task place birth mark. refl) (contents_in tasks)) all
+  sound_kept (prune moment rule) all =
+      all_loosened (IsSound keying.key_of) (λ p sound. sound) (pruned s.pool rule moment) s.pool.pointers all
+  sound_kept (quota limit) all = all
+  sound_kept (set_mode lane mode) all = all
 
   -- a sealed group of any kind keeps the premise
   pub group_kept : (item : GroupItem) (others : List (List ℕ)) → AreAmong (group_contents item) others

@@ -15,7 +15,7 @@ use Rattle.pool_model.proofs.Lists.{all_from, all_from_both}
 use Rattle.pool_model.proofs.TablePuts.{apart_by_order}
 use Rattle.pool_model.specs.Homes.{found_with, HomesMatch}
 use Rattle.pool_model.proofs.Synced.{found-synced, counted_stays}
-use Rattle.pool_model.proofs.Waiting.{entry_of, waiting_found, waiting_rising, waiting_has, waiting_synced}
+use Rattle.pool_model.proofs.Waiting.{entry_of, waiting_rising, waiting_has, waiting_synced}
 use Rattle.pool_model.proofs.Syncing.{sync_keeps}
 
 -- ---- Two of a list
@@ -73,6 +73,7 @@ matches_synced pool changes table is rising match =
     let waiting = waiting_match pool (found_with changes table) (waiting_in synced) match (waiting_synced changes table is rising)
     (waiting_rising synced (sync_keeps changes table is)) in
     record {
+      sorted = sync_keeps changes table is;
       homes = λ key. counted_stays (found_with changes table key) (found synced key) (found-synced changes table key is rising)
           ∙ match.homes key;
       waiting = waiting.0;
@@ -80,16 +81,16 @@ matches_synced pool changes table is rising match =
     }
 
 -- a table that matches as it stands does by its homes
-pub matches_read : (pool : Pool) (table : TableState) → IsTable table → Matches pool table → HomesMatch pool (found table)
-matches_read pool table is match = record {
+pub matches_read : (pool : Pool) (table : TableState) → Matches pool table → HomesMatch pool (found table)
+matches_read pool table match = record {
   homes = match.homes;
   waiting = λ key home there none. waiting_has
-      (λ e. AllByRecursion (IsApartFrom e) pool.pointers) table key home is there none match.waiting;
+      (λ e. AllByRecursion (IsApartFrom e) pool.pointers) table key home match.sorted there none match.waiting;
   apart = λ key other home second differ there none found_other none_other.
       waiting_has (λ e. KeysDiffer (entry_of key home) e
-      → EntriesApart (entry_of key home) e) table other second is found_other none_other
+      → EntriesApart (entry_of key home) e) table other second match.sorted found_other none_other
       (waiting_has (λ e. AllByRecursion (λ y. KeysDiffer e y → EntriesApart e y)
-      (waiting_in table)) table key home is there none two) differ;
+      (waiting_in table)) table key home match.sorted there none two) differ;
 }
   where
     never : (e : Entry) → KeysDiffer e e → ⊥

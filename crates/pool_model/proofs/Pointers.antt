@@ -1,11 +1,12 @@
 -- Lists of pointers: what an insertion in order keeps, and what a filter tells of the elements.
-use Rattle.std.proofs.Common.{◌≡◌, ℕ, Bool, true, false, cond, ◌&&◌, ◌==◌, List, [], ◌∷◌, filter, inl, inr, refl, sym, ap, subst, ◌∙◌, arith}
+use Rattle.std.proofs.Common.{◌≡◌, ℕ, Bool, true, false, cond, ◌&&◌, ◌||◌, ◌==◌, nat_lt, List, [], ◌∷◌, filter, inl, inr, refl, sym, ap, subst, ◌∙◌, arith}
 use Rattle.std.specs.List.{AllByRecursion}
 use Rattle.std.proofs.lemmas.Bool.Decides.{nat_tests}
 use Rattle.ddt_entry.specs.declared.key.Key.{Key}
 use Rattle.ddt_entry.specs.Keys.{key_eq}
 use Rattle.ddt_entry.proofs.KeyLaws.{key_eq-symm, key_eq-true}
-use Rattle.pool_model.specs.Pool.{Pointer, Pairwise, IsApart, GoTogether, SharesHome, run_length, is_tracked, is_shared, tracks, comes_before, insert_pointer}
+use Rattle.pool_model.specs.Pool.{Pointer, Pairwise, IsApart, GoTogether, SharesHome, run_length, is_tracked, is_shared, tracks, is_at, comes_before, insert_pointer}
+use Rattle.pool_model.proofs.Lists.{all_from}
 
 -- what each pointer has, an inserted one too, each pointer of the longer list has
 pub all_insert : (P : Pointer → Type 0) (p : Pointer) (ps : List Pointer) → P p → AllByRecursion P ps
@@ -25,6 +26,32 @@ pairs_insert R turned p (q ∷ qs) with_all pairs =
       | true ↦ (with_all, pairs)
       | false ↦ (all_insert (R q) p qs (turned p q with_all.0) pairs.0, pairs_insert R turned p qs with_all.1 pairs.1)
     ]
+
+-- pointers in order stay so when another one is put at its place, of a slot that none of them has
+abbrev Before : Pointer → Pointer → Type 0
+Before p q = comes_before p q ≡ true
+
+order_through : (a b c d e f : ℕ) → (nat_lt a c || ((a == c) && nat_lt b d)) ≡ true → (nat_lt c e || ((c == e) && nat_lt d f)) ≡ true
+    → (nat_lt a e || ((a == e) && nat_lt b f)) ≡ true
+order_through a b c d e f one other = grind (arith, nat_tests, one, other)
+
+order_turned : (a b c d : ℕ) → ((c == a) && (d == b)) ≡ false → (nat_lt a c || ((a == c) && nat_lt b d)) ≡ false
+    → (nat_lt c a || ((c == a) && nat_lt d b)) ≡ true
+order_turned a b c d apart not_before = grind (arith, nat_tests, apart, not_before)
+
+pub rising_insert : (p : Pointer) (ps : List Pointer) → AllByRecursion (λ q. is_at p.lane p.slot q ≡ false) ps
+    → Pairwise (λ a b. comes_before a b ≡ true) ps → Pairwise (λ a b. comes_before a b ≡ true) (insert_pointer p ps)
+rising_insert p [] apart rising = (tt, tt)
+rising_insert p (q ∷ qs) apart rising = by_order (comes_before p q) refl (rising_insert p qs apart.1 rising.1)
+  where
+    by_order : (b : Bool) → comes_before p q ≡ b → Pairwise Before (insert_pointer p qs)
+        → Pairwise Before (cond b (p ∷ q ∷ qs) (q ∷ insert_pointer p qs))
+    by_order true before rest = (
+      (before, all_from (Before q) (Before p) (λ r after. order_through p.lane p.slot q.lane q.slot r.lane r.slot before after) qs rising.0),
+      rising,
+    )
+    by_order false behind rest =
+        (all_insert (Before q) p qs (order_turned p.lane p.slot q.lane q.slot apart.0 behind) rising.0, rest)
 
 -- a pointer that doesn't pass leaves those that do
 pub filter_insert : (test : Pointer → Bool) (p : Pointer) (ps : List Pointer) → test p ≡ false

@@ -6,7 +6,7 @@ use Rattle.ddt_entry.specs.declared.key.Key.{Key}
 use Rattle.ddt_entry.specs.declared.entry.Home.{Home}
 use Rattle.ddt_entry.specs.Keys.{key_eq}
 use Rattle.ddt_entry.proofs.KeyLaws.{key_eq-symm}
-use Rattle.pool_model.specs.Pool.{Pointer, Pairwise, IsApart, GoTogether, SharesHome, LiesWithin, run_length, is_tracked, is_at, tracks}
+use Rattle.pool_model.specs.Pool.{Pointer, Pairwise, IsApart, GoTogether, SharesHome, LiesWithin, run_length, is_tracked, is_at, tracks, comes_before}
 use Rattle.pool_model.specs.Table.{counted, IsApartFrom}
 use Rattle.pool_model.specs.Command.{home_at}
 use Rattle.pool_model.proofs.Pointers.{all_fail, first_has, apart_turned, tracks-key}
@@ -108,6 +108,7 @@ module _ (test : Pointer → Bool) (ps : List Pointer) (left later : Key → Opt
   pub taken_kept : (sectors number : ℕ) (unnamed : (place length : ℕ) → Type 0) (given : List (ℕ × ℕ))
       → IsKept sectors number unnamed given ps left → IsKept sectors number unnamed given (filter test ps) later
   taken_kept sectors number unnamed given kept = record {
+    rising = pairs_filter (λ p q. comes_before p q ≡ true) test ps kept.rising;
     pairs = pairs_filter GoTogether test ps kept.pairs;
     within = all_filter (LiesWithin sectors number) test ps kept.within;
     uncounted = λ key none. uncounted_by key (filter (tracks key) ps) refl;

@@ -59,7 +59,7 @@ modes_after opening course turn = by_act turn.task.act
     by_act read = refl
     by_act free = modes_after_free (held course.pool turn.task.lane turn.task.slot) course turn
 
-modes_course : (opening : Opening) (course : Course) (turns : List Turn)
+pub modes_course : (opening : Opening) (course : Course) (turns : List Turn)
     → (fold (after opening) course turns).pool.modes ≡ course.pool.modes
 modes_course opening course [] = refl
 modes_course opening course (turn ∷ turns) = modes_course opening (after opening course turn) turns ∙ modes_after opening course turn

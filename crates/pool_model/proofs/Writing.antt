@@ -1,8 +1,9 @@
 -- What a group's changes make of its homes, and that a group of writes alone leaves each waiting home where it was.
-use Rattle.std.proofs.Common.{◌≡◌, ℕ, ◌+◌, ◌≤◌, Bool, true, false, List, [], ◌∷◌, filter, fold, Option, Some, None, inl, inr, refl, sym, ap, ◌∙◌, arith}
+use Rattle.std.proofs.Common.{◌≡◌, ℕ, ◌+◌, ◌≤◌, Bool, true, false, List, [], ◌∷◌, length, filter, fold, Option, Some, None, inl, inr, refl, sym, ap, ◌∙◌, arith}
 use Rattle.std.specs.List.{AllByRecursion}
 use Rattle.ddt_entry.specs.declared.key.Key.{Key}
 use Rattle.ddt_entry.specs.declared.entry.Home.{Home}
+use Rattle.pool_model.specs.declared.commands.Mode.{Mode}
 use Rattle.pool_model.specs.Pool.{Pool, Pointer, IsWellFormed, tracks}
 use Rattle.pool_model.specs.Table.{counted, home_of_pointers, found, found_over}
 use Rattle.pool_model.specs.Command.{Opening, Turn, Course, after}
@@ -12,6 +13,7 @@ use Rattle.pool_model.proofs.Homes.{matched_home, home_now, counted_now, left_no
 use Rattle.pool_model.proofs.Keeping.{Waits, IsKept}
 use Rattle.pool_model.proofs.Settling.{over_settled, settled-same, counted_settled, settled_uncounted}
 use Rattle.pool_model.proofs.Putting.{left_of, home_of, home_of-known, written_step}
+use Rattle.pool_model.proofs.Settings.{modes_course}
 use Rattle.pool_model.proofs.Courses.{IsTouching, IsWriting, kept_step, given_step, touching_step, writing_step, kept_opened}
 
 -- the home of a key after the group's changes is the one that is settled
@@ -127,8 +129,15 @@ module _ (sectors : ℕ) (unnamed : (place length : ℕ) → Type 0) (opening : 
       (sym (after_settled opening course is.touching changes key) ∙ after_is) zero in
       (record { none = waits.0; left_is = waits.1 }, waits.2)
 
--- the pool that it leaves is well formed
-pub kept_formed : (sectors : ℕ) (unnamed : (place length : ℕ) → Type 0) (opening : Opening) (course : Course)
-    → IsKept sectors opening.number unnamed course.given course.pool.pointers (left_of opening course)
-    → IsWellFormed sectors (record course.pool { group = opening.number })
-kept_formed sectors unnamed opening course kept = record { together = kept.pairs; within = kept.within }
+-- the pool that a group leaves is well formed
+pub kept_formed : (sectors : ℕ) (unnamed : (place length : ℕ) → Type 0) (opening : Opening) (pool : Pool) (fresh : List (List ℕ))
+    (turns : List Turn) → IsWellFormed sectors pool
+    → IsKept sectors opening.number unnamed (course_of opening pool fresh turns).given (course_of opening pool fresh turns).pool.pointers
+    (left_of opening (course_of opening pool fresh turns))
+    → IsWellFormed sectors (record (course_of opening pool fresh turns).pool { group = opening.number })
+kept_formed sectors unnamed opening pool fresh turns formed kept = record {
+  rising = kept.rising;
+  together = kept.pairs;
+  within = kept.within;
+  modes = ap (λ (modes : List Mode). length modes) (modes_course opening (opened pool fresh) turns) ∙ formed.modes;
+}

@@ -8,6 +8,7 @@ use Rattle.hex.specs.Hex.{decode_of}
 use Rattle.hex.specs.declared.FromHexError.{FromHexError}
 use Rattle.pool_model.specs.declared.notes.BadKind.{BadKind}
 use Rattle.pool_model.specs.declared.notes.BadKind.TheVariants.{Form}
+use Rattle.pool_model.specs.Pool.{block_limit}
 use Rattle.pool_model.specs.Plain.{Task, write, lanes, Part, of_group, stat, «import»}
 
 -- the first bad line, counted from 1 (0 for the file as a whole), and what is wrong with it
@@ -15,7 +16,7 @@ pub record Bad : Type 0 where
   pub line : ℕ
   pub kind : BadKind
 
--- at most so many bytes in a file, so many items, so many commands in a group, and so many bytes in a block
+-- at most so many bytes in a file, so many items, and so many commands in a group
 abbrev pub file_limit : ℕ
 file_limit = 1048576
 
@@ -24,9 +25,6 @@ item_limit = 10000
 
 abbrev pub command_limit : ℕ
 command_limit = 1000
-
-abbrev pub block_limit : ℕ
-block_limit = 4096
 
 abbrev pub is_line_feed : ℕ → Bool
 is_line_feed byte = byte == 10

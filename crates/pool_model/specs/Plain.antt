@@ -20,12 +20,19 @@ use Rattle.pool_model.specs.declared.notes.Kind.{Kind}
 use Rattle.pool_model.specs.declared.notes.Outcome.{Outcome}
 use Rattle.pool_model.specs.declared.notes.LaneNote.{LaneNote}
 use Rattle.pool_model.specs.declared.notes.GroupNote.{GroupNote}
+use Rattle.pool_model.specs.Pool.{IsContent}
 
 -- what a command does to its slot
 pub data Act : Type 0 where
   write : (content : List ℕ) → Act
   read : Act
   free : Act
+
+-- a write of a content
+abbrev pub WritesBlock : Act → Type 0
+WritesBlock (write content) = IsContent content
+WritesBlock read = ⊥
+WritesBlock free = ⊥
 
 -- a command
 pub record Task : Type 0 where

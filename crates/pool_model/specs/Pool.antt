@@ -1,5 +1,5 @@
 -- A pool: the pointers in the slots of its lanes, and its settings.
-use Rattle.std.specs.Prelude.{◌≡◌, ℕ, ◌+◌, ◌/◌, ◌≤◌, ◌⊎◌, ⊤, Bool, true, false, not, ◌&&◌, ◌||◌, ◌==◌, nat_lt, List, [], ◌∷◌, length, filter, fold, replicate, slice_get, unwrap_or, Option, None, if◌then◌else◌}
+use Rattle.std.specs.Prelude.{◌≡◌, ℕ, ◌+◌, ◌/◌, ◌<◌, ◌≤◌, ◌⊎◌, ⊤, Bool, true, false, not, ◌&&◌, ◌||◌, ◌==◌, nat_lt, List, [], ◌∷◌, length, filter, fold, replicate, slice_get, unwrap_or, Option, None, if◌then◌else◌}
 use Rattle.std.specs.List.{AllByRecursion, find}
 use Rattle.std.specs.Ordering.{is_eq, is_lt}
 use Rattle.ddt_entry.specs.Keys.{key_cmp, key_eq}
@@ -33,6 +33,18 @@ pub record Pool : Type 0 where
 -- how many lanes there are
 abbrev pub lane_count : ℕ
 lane_count = 16
+
+-- at most so many bytes in a block
+abbrev pub block_limit : ℕ
+block_limit = 4096
+
+-- what a write may store: at least one byte, and no more than a block has
+abbrev pub IsContent : List ℕ → Type 0
+IsContent content = (0 < length content) × (length content ≤ block_limit)
+
+-- a pointer whose key is the one of its content
+abbrev pub IsSound : (key_of : List ℕ → Key) → Pointer → Type 0
+IsSound key_of p = key_of p.content ≡ p.key
 
 -- the pool that a new image has
 abbrev pub empty_pool : Pool
@@ -138,7 +150,9 @@ pub record LiesWithin (sectors group : ℕ) (p : Pointer) : Type 0 where
   pub end : p.place + run_length p.key ≤ sectors
   pub birth : p.birth ≤ group
 
--- a pool as commands leave it, on a disk of so many sectors
+-- a pool as commands leave it, on a disk of so many sectors: its pointers rise by lane and slot, and each lane has a mode
 pub record IsWellFormed (sectors : ℕ) (pool : Pool) : Type 0 where
+  pub rising : Pairwise (λ p q. comes_before p q ≡ true) pool.pointers
   pub together : Pairwise GoTogether pool.pointers
   pub within : AllByRecursion (LiesWithin sectors pool.group) pool.pointers
+  pub modes : length pool.modes ≡ lane_count

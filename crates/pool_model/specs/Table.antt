@@ -168,8 +168,9 @@ home_of_pointers (p ∷ ps) = Some (record { place = p.place; birth = p.birth; s
 abbrev pub IsApartFrom : Entry → Pointer → Type 0
 IsApartFrom entry p = IsApart entry.home.place (run_length entry.key) p.place (run_length p.key)
 
--- each entry counts exactly the live pointers, and a waiting home's place is no one else's
+-- the table is sorted, each entry counts exactly the live pointers, and a waiting home's place is no one else's
 pub record Matches (pool : Pool) (table : TableState) : Type 0 where
+  pub sorted : IsTable table
   pub homes : (key : Key) → counted (found table key) ≡ home_of_pointers (tracked_at pool key)
   pub waiting : AllByRecursion (λ entry. AllByRecursion (IsApartFrom entry) pool.pointers) (waiting_in table)
   pub apart : Pairwise (λ a b. IsApart a.home.place (run_length a.key) b.home.place (run_length b.key)) (waiting_in table)

@@ -6,12 +6,13 @@ use Rattle.sha2.specs.Sha256.{sha256}
 use Rattle.ddt_entry.specs.Keys.{sha256_key, weak_key}
 use Rattle.ddt_entry.specs.declared.key.Key.{Key}
 use Rattle.ddt_entry.specs.declared.entry.Entry.{Entry}
+use Rattle.ddt_entry.specs.declared.entry.Change.TheVariants as changes
 use Rattle.pool_model.specs.declared.answers.WriteAnswer.TheVariants as written
-use Rattle.pool_model.specs.declared.commands.Mode.TheVariants.{Off, Verify}
+use Rattle.pool_model.specs.declared.commands.Mode.TheVariants.{Off, On, Verify}
 use Rattle.pool_model.specs.declared.notes.BadKind.TheVariants.{Form}
-use Rattle.pool_model.specs.Pool.{Pool, Pointer, Mark, plain, tracked, loose, empty_pool, IsWellFormed}
+use Rattle.pool_model.specs.Pool.{Pool, Pointer, Mark, plain, tracked, loose, empty_pool, IsContent, IsSound, IsWellFormed}
 use Rattle.pool_model.specs.Stats.{stats_of}
-use Rattle.pool_model.specs.Table.{empty_table, Matches}
+use Rattle.pool_model.specs.Table.{empty_table, IsTable, Matches}
 use Rattle.pool_model.specs.Plain.{Task, Part, Told, write, read, free, stat, «import», to_write}
 use Rattle.pool_model.specs.Space.{need, writes_in, changes_in}
 use Rattle.pool_model.specs.Group.{Standing}
@@ -20,9 +21,9 @@ use Rattle.pool_model.specs.File.{OpenGroup, file_limit, file_of, lawful_block, 
 use Rattle.pool_model.specs.Worked.{rules_by, steps_by, new_pool, lanes_item, mode_item, a, b, c, task, new, hit, lane_note, group_note, settings_note}
 use Rattle.pool_model.specs.WorkedTurns.{spoilt}
 
--- files that aren't of the form: without the last line feed, with CR, in capitals, with another letter, with another digit, with an odd digit,
--- without a digit, out of a range, with a number that begins with 0, with other words, with a line too many, of another lane, with two spaces,
--- with a group that isn't ended or that stands in another, with an `end` or a write and no group, and with an empty line
+-- files that aren't of the form: without the last line feed, with CR, in capitals, with another letter, with another digit, with an
+-- odd digit, without a digit, out of a range, with a number that begins with 0, with other words, with a line too many, of another lane,
+-- with two spaces, with a group that isn't ended or that stands in another, with an `end` or a write and no group, and with an empty line
 abbrev pub refused_files : List (List ℕ)
 refused_files =
     codes "group 1000\n0 write 1 61\nend\nstat"
@@ -75,14 +76,16 @@ pub record ReadFiles : Type 0 where
 abbrev pub open_group : (tasks : List Task) → Option OpenGroup
 open_group tasks = Some (record { moment = 0; tasks = tasks })
 
--- the longest file, how many lanes and buckets there are, the longest block and one longer, the most writes and one more, the most items and one more
+-- the longest file, how many lanes and buckets there are, the longest block and one longer, the most writes and one more, the most items
+-- and one more
 pub record Limits : Type 0 where
   pub longest_file : file_limit ≡ 2 ^ 20
   pub sixteen : length empty_pool.modes ≡ 16
   pub powers : length (stats_of empty_pool).buckets ≡ 21
   pub block : lawful_block (Ok (replicate 4096 97)) ≡ Some (replicate 4096 97)
   pub longer : lawful_block (Ok (replicate 4097 97)) ≡ None
-  pub writes : read_behind [] (open_group (replicate 999 (task 0 1 (write a)))) (codes "0 write 1 61") ≡ Some (record { parts = []; group = open_group (replicate 1000 (task 0 1 (write a))) })
+  pub writes : read_behind [] (open_group (replicate 999 (task 0 1 (write a)))) (codes "0 write 1 61")
+      ≡ Some (record { parts = []; group = open_group (replicate 1000 (task 0 1 (write a))) })
   pub one_more : read_behind [] (open_group (replicate 1000 (task 0 1 (write a)))) (codes "0 write 1 61") ≡ None
   pub items : read_behind (replicate 9999 stat) None (codes "stat") ≡ Some (record { parts = replicate 10000 stat; group = None })
   pub one_item_more : read_behind (replicate 10000 stat) None (codes "stat") ≡ None
@@ -126,12 +129,14 @@ whole_block = record spoilt { pool = empty_pool; blocks = λ place. if place == 
 abbrev pub off_notes : (number : ℕ) → List Told
 off_notes number = group_note number (lane_note 0 (to_write written.Off ∷ to_write written.Off ∷ []) (32 ∷ 33 ∷ []) ∷ []) ∷ []
 
--- the premise fails where a lane that trusts keys writes two blocks of one key, or finds other bytes under its key, that wait or that a pointer has; a lane that verifies, or that is off, asks for nothing
+-- the premise fails where a lane that trusts keys writes two blocks of one key, or finds other bytes under its key, that wait or that a
+-- pointer has; a lane that verifies, or that is off, asks for nothing
 pub record Premise : Type 0 where
   pub clash : IsClashFree weak_key new_pool two_blocks (two_blocks_notes 2) → ⊥
   pub verified : IsClashFree weak_key new_pool (mode_item 0 Verify ∷ two_blocks) (settings_note 2 ∷ two_blocks_notes 3)
   pub switched_off : IsClashFree weak_key new_pool (mode_item 0 Off ∷ two_blocks) (settings_note 2 ∷ off_notes 3)
-  pub one_block : IsClashFree sha256_key new_pool (lanes_item 1000 (task 0 1 (write a) ∷ task 0 2 (write a) ∷ []) ∷ []) (two_blocks_notes 2)
+  pub one_block : IsClashFree sha256_key new_pool
+      (lanes_item 1000 (task 0 1 (write a) ∷ task 0 2 (write a) ∷ []) ∷ []) (two_blocks_notes 2)
   pub spoilt_block : TrustsOneWrite (record spoilt { pool = empty_pool }) → ⊥
   pub spoilt_pointer : TrustsOneWrite (record spoilt { table = empty_table }) → ⊥
   pub waiting_block : TrustsOneWrite whole_block
@@ -149,7 +154,8 @@ pool_of pointers = record empty_pool { pointers = pointers; group = 2 }
 abbrev pub IsWhole : List Pointer → Type 0
 IsWhole pointers = IsWellFormed 2048 (pool_of pointers)
 
--- pointers of one entry share its place, no others do, each place lies between the ring and the disk's end, and no birth is later than the last group
+-- pointers rise by slot, those of one entry share its place, no others do, each place lies between the ring and the disk's end, no birth
+-- is later than the last group, and there are sixteen modes
 pub record HoldTogether : Type 0 where
   pub shared : IsWhole (pointer 1 32 (tracked 9) ∷ pointer 2 32 (tracked 9) ∷ pointer 3 33 plain ∷ pointer 4 2047 loose ∷ [])
   pub one_slot : IsWhole (pointer 1 32 plain ∷ pointer 1 33 plain ∷ []) → ⊥
@@ -159,12 +165,26 @@ pub record HoldTogether : Type 0 where
   pub in_ring : IsWhole (pointer 1 31 plain ∷ []) → ⊥
   pub past_end : IsWhole (pointer 1 2048 plain ∷ []) → ⊥
   pub later_born : IsWhole (record (pointer 1 32 plain) { birth = 3 } ∷ []) → ⊥
+  pub out_of_order : IsWhole (pointer 2 32 plain ∷ pointer 1 33 plain ∷ []) → ⊥
+  pub few_modes : IsWellFormed 2048 (record (pool_of []) { modes = replicate 15 On }) → ⊥
+
+-- a content has 1 to 4,096 bytes, and a pointer's key is its content's
+pub record Contents : Type 0 where
+  pub longest : IsContent (replicate 4096 97)
+  pub nothing : IsContent [] → ⊥
+  pub too_long : IsContent (replicate 4097 97) → ⊥
+  pub own_bytes : IsSound weak_key (pointer 1 32 plain)
+  pub other_bytes : IsSound weak_key (record (pointer 1 32 plain) { content = b }) → ⊥
 
 abbrev pub entry : (place count : ℕ) → Entry
 entry place count = record { key = one_key; home = record { place = place; birth = 2; since = 9; count = count } }
 
 abbrev pub MatchesEntry : List Pointer → Entry → Type 0
-MatchesEntry pointers entry = Matches (pool_of pointers) (record empty_table { zap = entry ∷ [] })
+MatchesEntry pointers entry = Matches (pool_of pointers) (record empty_table { active = changes.Entry entry ∷ [] })
+
+-- entries of keys that rise, or don't
+abbrev pub above : (first : ℕ) → Entry
+above first = record { key = weak_key (first ∷ []); home = record { place = 32; birth = 2; since = 9; count = 1 } }
 
 -- an entry counts its pointers, no more and no fewer, and one without pointers has its place for itself
 pub record Counted : Type 0 where
@@ -174,3 +194,21 @@ pub record Counted : Type 0 where
   pub left_over : MatchesEntry [] (entry 32 1) → ⊥
   pub waiting : MatchesEntry (pointer 1 33 loose ∷ []) (entry 32 0)
   pub place_taken : MatchesEntry (pointer 1 32 loose ∷ []) (entry 32 0) → ⊥
+  pub uncounted_stored : Matches (pool_of []) (record empty_table { zap = entry 32 0 ∷ [] }) → ⊥
+
+-- each list of a table rises by key, no key is in both logs, its stored homes are counted, and what is left to flush is behind the
+-- checkpoint
+pub record Sorted : Type 0 where
+  pub three_lists : IsTable
+      (record empty_table {
+        zap = above 3 ∷ above 4 ∷ [];
+        flush = changes.Gone (above 5).key ∷ [];
+        active = changes.Entry (above 3) ∷ changes.Entry (above 6) ∷ [];
+      })
+  pub stored_falls : IsTable (record empty_table { zap = above 4 ∷ above 3 ∷ [] }) → ⊥
+  pub stored_twice : IsTable (record empty_table { zap = above 3 ∷ above 3 ∷ [] }) → ⊥
+  pub active_falls : IsTable (record empty_table { active = changes.Entry (above 4) ∷ changes.Entry (above 3) ∷ [] }) → ⊥
+  pub flushing_falls : IsTable (record empty_table { flush = changes.Entry (above 4) ∷ changes.Entry (above 3) ∷ [] }) → ⊥
+  pub in_both : IsTable (record empty_table { flush = changes.Entry (above 3) ∷ []; active = changes.Gone (above 3).key ∷ [] }) → ⊥
+  pub uncounted : IsTable (record empty_table { zap = entry 32 0 ∷ [] }) → ⊥
+  pub flushed_already : IsTable (record empty_table { flush = changes.Entry (above 3) ∷ []; checkpoint = Some (above 3).key }) → ⊥

@@ -20,7 +20,8 @@ use Rattle.pool_model.specs.Worked.{AreNotesOf, rules_by, steps_by, new_pool, la
 use Rattle.pool_model.specs.WorkedTurns.{own_key}
 
 -- from here the notes are those of a run of the items, which leaves these pointers and this table
-pub record Leaves (key_of : List ℕ → Key) (s : Standing) (parts : List Part) (notes : List Told) (pointers : List Pointer) (table : TableState) : Type 0 where
+pub record Leaves (key_of : List ℕ → Key) (s : Standing) (parts : List Part) (notes : List Told) (pointers : List Pointer)
+    (table : TableState) : Type 0 where
   pub notes_are : AreNotesOf always_sealed (rules_by key_of) s parts notes
   pub pointers_left : (last_standing s (steps_by (rules_by key_of) parts s notes)).pool.pointers ≡ pointers
   pub table_left : (last_standing s (steps_by (rules_by key_of) parts s notes)).table ≡ table
@@ -69,7 +70,10 @@ NewMoment = Leaves own_key new_pool
 -- a hit and a free in one group are no change, and neither is an entry that comes and goes
 abbrev pub NoChange : Type 0
 NoChange = Leaves own_key
-    (record new_pool { pool = record empty_pool { pointers = pointer 1 a 32 2 (tracked 1000) ∷ [] }; table = record empty_table { zap = entry (own_key a) 32 2 1000 1 ∷ [] } })
+    (record new_pool {
+      pool = record empty_pool { pointers = pointer 1 a 32 2 (tracked 1000) ∷ [] };
+      table = record empty_table { zap = entry (own_key a) 32 2 1000 1 ∷ [] };
+    })
     (commands 2000 ((2, write a) ∷ (1, free) ∷ (3, write b) ∷ (3, free) ∷ []) ∷ [])
     (told 2 (hit ∷ counted ∷ new ∷ counted ∷ []) (33 ∷ []) ∷ [])
     (pointer 2 a 32 2 (tracked 1000) ∷ [])
@@ -105,13 +109,15 @@ ReadsNothing = (noted_course (rules_by own_key)
     (record new_pool { pool = record empty_pool { modes = Off ∷ replicate 15 On } })
     1000
     (task 0 1 (write a) ∷ task 0 1 (write b) ∷ task 0 1 free ∷ task 0 1 free ∷ task 0 1 read ∷ [])
-    (told 2 (to_write written.Fault ∷ to_write written.Fault ∷ to_free freed.Fault ∷ to_free freed.Fault ∷ to_write written.Fault ∷ []) (32 ∷ []))).replies
+    (told 2 (to_write written.Fault ∷ to_write written.Fault ∷ to_free freed.Fault ∷ to_free freed.Fault ∷ to_write written.Fault
+    ∷ []) (32 ∷ []))).replies
     ≡ to_write written.Off ∷ to_write written.Taken ∷ to_free freed.Freed ∷ to_free freed.Empty ∷ to_read nothing ∷ []
 
 -- an entry that is made in place of one that waits, and goes again, leaves the one that waits
 abbrev pub WaitsAgain : Type 0
 WaitsAgain = Leaves weak_key new_pool
-    (mode_item 0 Verify ∷ commands 1000 ((1, write (97 ∷ a)) ∷ []) ∷ commands 2000 ((1, free) ∷ (2, write (97 ∷ b)) ∷ (2, free) ∷ []) ∷ [])
+    (mode_item 0 Verify ∷ commands 1000 ((1, write (97 ∷ a)) ∷ []) ∷ commands 2000 ((1, free) ∷ (2, write (97 ∷ b)) ∷ (2, free) ∷ [])
+    ∷ [])
     (settings_note 2 ∷ told 3 (new ∷ []) (32 ∷ []) ∷ told 4 (counted ∷ new ∷ counted ∷ []) (33 ∷ []) ∷ [])
     []
     (logged 3 (entry (weak_key (97 ∷ a)) 32 3 1000 0 ∷ []))
@@ -119,7 +125,8 @@ WaitsAgain = Leaves weak_key new_pool
 -- a block that waits keeps its bytes, and a lane that verifies takes it up by them
 abbrev pub BytesKept : Type 0
 BytesKept = Leaves own_key new_pool
-    (mode_item 0 Verify ∷ commands 1000 ((1, write a) ∷ []) ∷ commands 2000 ((1, free) ∷ []) ∷ commands 3000 [] ∷ commands 4000 ((2, write a) ∷ []) ∷ [])
+    (mode_item 0 Verify ∷ commands 1000 ((1, write a) ∷ []) ∷ commands 2000 ((1, free) ∷ []) ∷ commands 3000 []
+    ∷ commands 4000 ((2, write a) ∷ []) ∷ [])
     (settings_note 2 ∷ told 3 (new ∷ []) (32 ∷ []) ∷ told 4 (counted ∷ []) [] ∷ group_note 5 [] ∷ told 6 (new ∷ []) [] ∷ [])
     (pointer 2 a 32 3 (tracked 4000) ∷ [])
     (logged 5 (entry (own_key a) 32 3 4000 1 ∷ []))
@@ -127,16 +134,24 @@ BytesKept = Leaves own_key new_pool
 -- a prune by share takes the oldest first, whatever its key, and none that has two pointers
 abbrev pub OldestFirst : Type 0
 OldestFirst = Leaves own_key new_pool
-    (commands 1000 ((1, write c) ∷ (2, write c) ∷ (3, write b) ∷ []) ∷ commands 2000 ((4, write a) ∷ []) ∷ prune_item 3000 (Share 50) ∷ [])
+    (commands 1000 ((1, write c) ∷ (2, write c) ∷ (3, write b) ∷ []) ∷ commands 2000 ((4, write a) ∷ []) ∷ prune_item 3000 (Share 50)
+    ∷ [])
     (told 2 (new ∷ hit ∷ new ∷ []) (32 ∷ 33 ∷ []) ∷ told 3 (new ∷ []) (34 ∷ []) ∷ prune_note 4 1 ∷ [])
     (pointer 1 c 32 2 (tracked 1000) ∷ pointer 2 c 32 2 (tracked 1000) ∷ pointer 3 b 33 2 loose ∷ pointer 4 a 34 3 (tracked 2000) ∷ [])
-    (record empty_table { active = changes.Entry (entry (own_key a) 34 3 2000 1) ∷ changes.Gone (own_key b) ∷ changes.Entry (entry (own_key c) 32 2 1000 2) ∷ []; age = 3 })
+    (record empty_table {
+      active = changes.Entry (entry (own_key a) 34 3 2000 1) ∷ changes.Gone (own_key b)
+          ∷ changes.Entry (entry (own_key c) 32 2 1000 2) ∷ [];
+      age = 3;
+    })
 
 -- a prune leaves a pointer outside the table as it is
 abbrev pub PlainStays : Type 0
 PlainStays = Leaves
     own_key
-    (record new_pool { pool = record empty_pool { pointers = pointer 1 a 32 1 (tracked 1000) ∷ pointer 2 a 33 1 plain ∷ [] }; table = record empty_table { zap = entry (own_key a) 32 1 1000 1 ∷ [] } })
+    (record new_pool {
+      pool = record empty_pool { pointers = pointer 1 a 32 1 (tracked 1000) ∷ pointer 2 a 33 1 plain ∷ [] };
+      table = record empty_table { zap = entry (own_key a) 32 1 1000 1 ∷ [] };
+    })
     (prune_item 2000 (Share 100) ∷ [])
     (prune_note 2 1 ∷ [])
     (pointer 1 a 32 1 loose ∷ pointer 2 a 33 1 plain ∷ [])
@@ -171,8 +186,10 @@ CutBlock = Leaves
 -- pointers stand by lane and then by slot, and a block of at most 4,096 bytes takes one sector
 pub record Ordered : Type 0 where
   pub pointers : (fold with_pointer empty_pool
-      (record (pointer 1 a 32 2 plain) { lane = 1 } ∷ pointer 3 a 33 2 plain ∷ pointer 2 a 34 2 plain ∷ record (pointer 0 a 35 2 plain) { lane = 2 } ∷ [])).pointers
-      ≡ pointer 2 a 34 2 plain ∷ pointer 3 a 33 2 plain ∷ record (pointer 1 a 32 2 plain) { lane = 1 } ∷ record (pointer 0 a 35 2 plain) { lane = 2 } ∷ []
+      (record (pointer 1 a 32 2 plain) { lane = 1 } ∷ pointer 3 a 33 2 plain ∷ pointer 2 a 34 2 plain
+      ∷ record (pointer 0 a 35 2 plain) { lane = 2 } ∷ [])).pointers
+      ≡ pointer 2 a 34 2 plain ∷ pointer 3 a 33 2 plain ∷ record (pointer 1 a 32 2 plain) { lane = 1 }
+      ∷ record (pointer 0 a 35 2 plain) { lane = 2 } ∷ []
   pub runs : map (λ bytes. run_length (record (own_key a) { len = bytes })) (1 ∷ 4096 ∷ 4097 ∷ 131072 ∷ []) ≡ 1 ∷ 1 ∷ 2 ∷ 32 ∷ []
 
 -- a pointer's block at sector 32, and a waiting one at 33

@@ -32,15 +32,18 @@ TakenSlot = IsWorkedFile (codes "group 1000\n0 write 1 61\n0 write 1 62\nend\nst
 -- a full table makes no entry, and still counts
 abbrev pub FullQuota : Type 0
 FullQuota = IsWorkedAnew
-    (quota_item (Some 256) ∷ lanes_item 1000 (task 0 1 (write a) ∷ task 0 2 (write b) ∷ task 0 3 (write a) ∷ task 0 2 read ∷ []) ∷ stat ∷ [])
+    (quota_item (Some 256) ∷ lanes_item 1000 (task 0 1 (write a) ∷ task 0 2 (write b) ∷ task 0 3 (write a) ∷ task 0 2 read ∷ []) ∷ stat
+    ∷ [])
     (settings_note 2 ∷ group_note 3 (lane_note 0 (new ∷ to_write written.Quota ∷ hit ∷ seen b ∷ []) (32 ∷ 33 ∷ []) ∷ []) ∷ [])
     (codes "quota 2 sealed\ngroup 3 sealed\n0 write 1 new\n0 write 2 quota\n0 write 3 hit\n0 read 2 bytes 62\nstat 3\nquota 256\nkeys 1\nunique 0\nduplicate 1\nrefs 2\nloose 0\nplain 1\nallocated 1\nreferenced 2\nbucket 2 keys 1 allocated 1 referenced 2\n")
 
 -- a key that lost its last pointer leaves room in the quota
 abbrev pub RoomAgain : Type 0
 RoomAgain = IsWorkedAnew
-    (quota_item (Some 256) ∷ lanes_item 1000 (task 0 1 (write a) ∷ []) ∷ lanes_item 1001 (task 0 1 free ∷ task 0 2 (write b) ∷ []) ∷ stat ∷ [])
-    (settings_note 2 ∷ group_note 3 (lane_note 0 (new ∷ []) (32 ∷ []) ∷ []) ∷ group_note 4 (lane_note 0 (counted ∷ new ∷ []) (33 ∷ []) ∷ []) ∷ [])
+    (quota_item (Some 256) ∷ lanes_item 1000 (task 0 1 (write a) ∷ []) ∷ lanes_item 1001 (task 0 1 free ∷ task 0 2 (write b) ∷ []) ∷ stat
+    ∷ [])
+    (settings_note 2 ∷ group_note 3 (lane_note 0 (new ∷ []) (32 ∷ []) ∷ [])
+    ∷ group_note 4 (lane_note 0 (counted ∷ new ∷ []) (33 ∷ []) ∷ []) ∷ [])
     (codes "quota 2 sealed\ngroup 3 sealed\n0 write 1 new\ngroup 4 sealed\n0 free 1 counted\n0 write 2 new\nstat 4\nquota 256\nkeys 1\nunique 1\nduplicate 0\nrefs 1\nloose 0\nplain 0\nallocated 1\nreferenced 1\nbucket 1 keys 1 allocated 1 referenced 1\n")
 
 -- a day has 86,400 seconds
@@ -53,8 +56,10 @@ PrunedByAge = IsWorkedAnew
 -- a pruned pointer is loose, also after its key has an entry again
 abbrev pub LoosePointer : Type 0
 LoosePointer = IsWorkedAnew
-    (lanes_item 1000 (task 0 1 (write a) ∷ []) ∷ prune_item 2000 (Share 100) ∷ lanes_item 3000 (task 0 2 (write a) ∷ task 0 1 free ∷ task 0 2 read ∷ []) ∷ stat ∷ [])
-    (group_note 2 (lane_note 0 (new ∷ []) (32 ∷ []) ∷ []) ∷ prune_note 3 1 ∷ group_note 4 (lane_note 0 (new ∷ to_free freed.Loose ∷ seen a ∷ []) (33 ∷ []) ∷ []) ∷ [])
+    (lanes_item 1000 (task 0 1 (write a) ∷ []) ∷ prune_item 2000 (Share 100)
+    ∷ lanes_item 3000 (task 0 2 (write a) ∷ task 0 1 free ∷ task 0 2 read ∷ []) ∷ stat ∷ [])
+    (group_note 2 (lane_note 0 (new ∷ []) (32 ∷ []) ∷ []) ∷ prune_note 3 1
+    ∷ group_note 4 (lane_note 0 (new ∷ to_free freed.Loose ∷ seen a ∷ []) (33 ∷ []) ∷ []) ∷ [])
     (codes "group 2 sealed\n0 write 1 new\nprune 3 sealed 1\ngroup 4 sealed\n0 write 2 new\n0 free 1 loose\n0 read 2 bytes 61\nstat 4\nquota none\nkeys 1\nunique 1\nduplicate 0\nrefs 1\nloose 0\nplain 0\nallocated 1\nreferenced 1\nbucket 1 keys 1 allocated 1 referenced 1\n")
 
 -- of homes of one moment a prune takes the lowest key, here that of 63

@@ -48,7 +48,8 @@ pub record Flushed : Type 0 where
   pub set : sync_table [] swapped_entry ≡ record empty_table { zap = entry 1 1 ∷ []; age = 1 }
   pub dropped : sync_table [] swapped_waiting ≡ record empty_table { age = 1 }
   pub dropped_from_zap : sync_table [] (record swapped_waiting { zap = entry 1 2 ∷ [] }) ≡ record empty_table { age = 1 }
-  pub kept : sync_table (to 1 1 ∷ []) (record swapped_waiting { zap = entry 1 2 ∷ [] }) ≡ record empty_table { zap = entry 1 2 ∷ []; active = to 1 1 ∷ []; age = 1 }
+  pub kept : sync_table (to 1 1 ∷ []) (record swapped_waiting { zap = entry 1 2 ∷ [] })
+      ≡ record empty_table { zap = entry 1 2 ∷ []; active = to 1 1 ∷ []; age = 1 }
   pub taken_up : sync_table (to 1 1 ∷ []) swapped_waiting ≡ record empty_table { active = to 1 1 ∷ []; age = 1 }
 
 -- a key that has gone hides what stands below it, and a flush drops it there
@@ -56,8 +57,10 @@ pub record GoneKey : Type 0 where
   pub hidden : found (record empty_table { zap = entry 1 3 ∷ []; flush = to 1 2 ∷ []; active = gone 1 ∷ [] }) (key 1) ≡ None
   pub flushing_first : found (record empty_table { zap = entry 1 3 ∷ []; flush = to 1 2 ∷ [] }) (key 1) ≡ Some (entry 1 2).home
   pub stored : found (record empty_table { zap = entry 1 3 ∷ []; flush = to 2 2 ∷ [] }) (key 1) ≡ Some (entry 1 3).home
-  pub logged : sync_table (gone 1 ∷ []) (record empty_table { zap = entry 1 3 ∷ [] }) ≡ record empty_table { zap = entry 1 3 ∷ []; active = gone 1 ∷ []; age = 1 }
-  pub dropped : idle_synced 9 (record empty_table { zap = entry 1 3 ∷ entry 2 2 ∷ []; active = gone 1 ∷ [] }) ≡ record empty_table { zap = entry 2 2 ∷ []; age = 1 }
+  pub logged : sync_table (gone 1 ∷ []) (record empty_table { zap = entry 1 3 ∷ [] })
+      ≡ record empty_table { zap = entry 1 3 ∷ []; active = gone 1 ∷ []; age = 1 }
+  pub dropped : idle_synced 9 (record empty_table { zap = entry 1 3 ∷ entry 2 2 ∷ []; active = gone 1 ∷ [] })
+      ≡ record empty_table { zap = entry 2 2 ∷ []; age = 1 }
 
 abbrev pub entries_from : (first count : ℕ) → List Entry
 entries_from first count = map (λ n. entry n 1) (range_with_len first count)
@@ -69,7 +72,12 @@ changes_from first count = map (λ n. to n 1) (range_with_len first count)
 pub record FlushedInParts : Type 0 where
   pub first : sync_table [] (record empty_table { flush = changes_from 0 80; age = 3 })
       ≡ record empty_table { zap = entries_from 0 74; flush = changes_from 74 6; age = 4; checkpoint = Some (key 73) }
-  pub last : sync_table [] (record empty_table { zap = entries_from 0 74; flush = changes_from 74 6; age = 4; checkpoint = Some (key 73) })
+  pub last : sync_table [] (record empty_table {
+    zap = entries_from 0 74;
+    flush = changes_from 74 6;
+    age = 4;
+    checkpoint = Some (key 73);
+  })
       ≡ record empty_table { zap = entries_from 0 80; age = 5 }
 
 -- how much is flushed goes by the log before the group's changes
@@ -80,18 +88,26 @@ LimitBefore = sync_table (to 0 2 ∷ []) (record empty_table { flush = changes_f
 -- a log whose swap is due waits until the other one is flushed
 pub record SwapWaits : Type 0 where
   pub waits : sync_table [] (record empty_table { flush = changes_from 0 140; active = to 200 1 ∷ []; age = 8 })
-      ≡ record empty_table { zap = entries_from 0 81; flush = changes_from 81 59; active = to 200 1 ∷ []; age = 9; checkpoint = Some (key 80) }
+      ≡ record empty_table {
+        zap = entries_from 0 81;
+        flush = changes_from 81 59;
+        active = to 200 1 ∷ [];
+        age = 9;
+        checkpoint = Some (key 80);
+      }
   pub swaps : idle_synced 2 (record empty_table { flush = changes_from 0 140; active = to 200 1 ∷ []; age = 8 })
       ≡ record empty_table { zap = entries_from 0 140; flush = to 200 1 ∷ [] }
 
 -- the logs swap at 1,000 keys
 pub record SwapByKeys : Type 0 where
   pub below : (sync_table (to 998 1 ∷ []) (record empty_table { active = changes_from 0 998 })).active ≡ changes_from 0 999
-  pub reached : sync_table (to 999 1 ∷ []) (record empty_table { active = changes_from 0 999 }) ≡ record empty_table { flush = changes_from 0 1000 }
+  pub reached : sync_table (to 999 1 ∷ []) (record empty_table { active = changes_from 0 999 })
+      ≡ record empty_table { flush = changes_from 0 1000 }
 
 -- of a thousand changes the first group flushes 189, and the eight behind it 165 to 9
 pub record LongFlush : Type 0 where
-  pub limits : map (λ count. flush_limit (record empty_table { flush = changes_from 0 count })) (1000 ∷ 811 ∷ 646 ∷ 502 ∷ 376 ∷ 265 ∷ 168 ∷ 83 ∷ 9 ∷ [])
+  pub limits : map (λ count. flush_limit (record empty_table { flush = changes_from 0 count }))
+      (1000 ∷ 811 ∷ 646 ∷ 502 ∷ 376 ∷ 265 ∷ 168 ∷ 83 ∷ 9 ∷ [])
       ≡ 189 ∷ 165 ∷ 144 ∷ 126 ∷ 111 ∷ 97 ∷ 85 ∷ 74 ∷ 65 ∷ []
   pub first : sync_table [] (record empty_table { flush = changes_from 0 1000 })
       ≡ record empty_table { zap = entries_from 0 189; flush = changes_from 189 811; age = 1; checkpoint = Some (key 188) }

@@ -13,7 +13,7 @@ use Rattle.grant_book.proofs.MarkLaws.{length-ring_used, ring_used-at}
 use Rattle.pool_model.specs.Pool.{empty_pool}
 use Rattle.pool_model.specs.Run.{first_standing}
 use Rattle.pool_model.specs.Space.{is_used, used_sectors}
-use Rattle.pool_model.specs.Table.{empty_table}
+use Rattle.pool_model.specs.Table.{IsTable, empty_table}
 use Rattle.table_state.specs.SealForms.{new_seal, is_formed, fewest_sectors, most_sectors, has_size}
 use Rattle.table_state.specs.Flat.{Flat, StandsFor, Reads, flat_version}
 use Rattle.table_state.specs.Pools.{IsHeld, new_held}
@@ -36,6 +36,9 @@ new_formed tag sectors size enough few there =
 
     sizes : has_size size (new_seal tag sectors) ≡ true
     sizes = and_from _ _ (and_from _ _ (at_least fewest_sectors sectors enough) (at_least sectors most_sectors few)) (at_least sectors size there)
+
+empty_sorted : IsTable empty_table
+empty_sorted = record { zap_rising = tt; zap_counted = tt; flush_rising = tt; active_rising = tt; logs_apart = tt; past = tt }
 
 pub stands_for_empty : (tag sectors : ℕ) (image : Image) → fewest_sectors ≤ sectors → sectors ≤ most_sectors → sectors ≤ length image → newest flat_version image ≡ Some (new_seal tag sectors) → StandsFor tag image empty_pool empty_table
 unfolding nothing
@@ -83,8 +86,8 @@ stands_for_empty tag sectors image enough few there seals =
       };
       table_is = refl;
       pool_is = refl;
-      well_formed = record { together = tt; within = tt };
-      matches = record { homes = λ key. refl; waiting = tt; apart = tt };
+      well_formed = record { rising = tt; together = tt; within = tt; modes = refl };
+      matches = record { sorted = empty_sorted; homes = λ key. refl; waiting = tt; apart = tt };
       homes = refl;
       references = refl;
       pages = refl;
@@ -138,7 +141,7 @@ new_is_sound tag sectors enough few = record {
   slots_rising = tt;
   within = record { zap = tt; flush = tt; active = tt };
   lengths = record { zap = tt; flush = tt; active = tt };
-  sorted = record { zap_rising = tt; zap_counted = tt; flush_rising = tt; active_rising = tt; logs_apart = tt; past = tt };
+  sorted = empty_sorted;
   counts = λ key home found. absurd (cc found);
 }
 

@@ -6,7 +6,7 @@ use Rattle.ddt_entry.specs.declared.key.Key.{Key}
 use Rattle.disk_model.specs.Images.{Image, sector_at}
 use Rattle.pool_model.specs.declared.commands.Mode.{Mode}
 use Rattle.pool_model.specs.Plain.{Stored}
-use Rattle.pool_model.specs.Pool.{Pool, Pointer, Mark, since_of, tracks, tracked_at, GoTogether, LiesWithin, IsWellFormed}
+use Rattle.pool_model.specs.Pool.{Pool, Pointer, Mark, comes_before, since_of, tracks, tracked_at, GoTogether, LiesWithin, IsWellFormed}
 use Rattle.pool_model.specs.Table.{TableState, found, counted, home_of_pointers, IsApartFrom, waiting_in, Matches}
 use Rattle.table_state.specs.Flat.{mark_of, pointer_of}
 use Rattle.table_state.specs.Pools.{with_blocks, pool_after}
@@ -22,6 +22,8 @@ use Rattle.table_state.proofs.MarksOf.{marks_stand}
 pub well_formed_refilled : (image : Image) (sectors : ℕ) (pool : Pool) → IsWellFormed sectors pool
     → IsWellFormed sectors (refilled_pool image pool)
 well_formed_refilled image sectors pool is = record {
+  rising = pairs_kept (λ p q. comes_before p q ≡ true) (refilled image) (λ p q before. before) pool.pointers is.rising;
+  modes = is.modes;
   together =
       pairs_kept GoTogether (refilled image)
       (λ p q go. record {
@@ -55,6 +57,7 @@ home_refilled image (p ∷ ps) =
 -- and its table matches it as before
 pub matches_refilled : (image : Image) (pool : Pool) (table : TableState) → Matches pool table → Matches (refilled_pool image pool) table
 matches_refilled image pool table is = record {
+  sorted = is.sorted;
   homes = λ key. is.homes key
       ∙ sym (ap home_of_pointers (tracked_refilled image key pool.pointers) ∙ home_refilled image (tracked_at pool key));
   waiting =

@@ -1,4 +1,4 @@
-use Rattle.pool_model.proofs.Facts.{refused_files, edge_file, read_files, limits, digests, needs, premise, hold_together, counted}
+use Rattle.pool_model.proofs.Facts.{refused_files, edge_file, read_files, limits, digests, needs, premise, hold_together, contents, counted, sorted}
 use Rattle.pool_model.proofs.worked.worked_facts.Goals as goal
 
 pub returns : goal.returns
@@ -11,5 +11,7 @@ returns c = record {
   needs = needs;
   premise = premise;
   hold_together = hold_together;
+  contents = contents;
   counted = counted;
+  sorted = sorted;
 }
