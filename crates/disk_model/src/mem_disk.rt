@@ -60,7 +60,8 @@ impl Model for MemDisk {
 impl MemDisk {
     /// A disk of so many sectors of zeros. The error is want of memory.
     pub fn new(alloc: Global, sectors: u64) -> Result<MemDisk, AllocError>
-        ensures { IfOk result (λ disk. disk ≡ new_disk sectors (padded sectors [])) }
+        ensures made { IfOk result (λ disk. disk ≡ new_disk sectors (padded sectors [])) }
+        ensures settled { IfOk result (λ disk. NothingPending (Some (contents disk)) (MayBeLeft disk)) }
     {
         let zeros = padded_copy(alloc, sectors as usize, &[])?;
         Ok(MemDisk::holding(alloc, Vec::new(alloc), zeros))
