@@ -5,12 +5,12 @@ use Rattle.disk_model.specs.Images.{Image, TellsImage}
 use Rattle.disk_model.proofs.Moments.{weakened}
 use Rattle.pool_model.specs.Run.{first_standing}
 use Rattle.table_state.specs.Flat.{HasNoPool}
-use Rattle.table_state.specs.Holding.{StandsOver}
+use Rattle.table_state.specs.Holding.{Holds, StandsOver}
 use Rattle.table_state.specs.Pools.{Held, new_held}
 use Rattle.table_state.specs.SealForms.{fewest_sectors, most_sectors, new_seal}
 use Rattle.table_state.proofs.Created.{new_stands_over}
-use Rattle.txg_sync.specs.Creating.{NoneOrNew, Creates}
-use Rattle.txg_sync.specs.Stages.{Begins, Beginning, SameOutside, Unbegun}
+use Rattle.txg_sync.specs.Creating.{NoneOrNew, Creates, CreatesAllButGate}
+use Rattle.txg_sync.specs.Stages.{Begins, Beginning, LeavesFirstGate, SameOutside, Unbegun}
 
 pub creates_of : (tag sectors : ℕ) (held : Held) (old new : Option Image) → held ≡ new_held tag sectors → TellsImage sectors old
     → fewest_sectors ≤ sectors → sectors ≤ most_sectors → Begins tag old new → Creates old new sectors held
@@ -21,6 +21,20 @@ creates_of tag sectors held (Some image) new is tells enough few begins = (
   subst (λ (h : Held). StandsOver begins.0 h (first_standing sectors)) (sym is)
       (new_stands_over tag sectors begins.0 enough few (omega (arith, tells.count, begins.2.outside.count))
       (begins.2.counts ∙ ap (λ n. Some (new_seal tag n)) tells.count)),
+)
+
+-- or the write of its gate failed
+pub all_but_gate : (tag sectors : ℕ) (old new : Option Image) → TellsImage sectors old → LeavesFirstGate tag old new
+    → CreatesAllButGate tag sectors old new
+all_but_gate tag sectors None new tells left = tt
+all_but_gate tag sectors (Some image) new tells left = (
+  left.0,
+  left.1,
+  record {
+    meant = left.2.meant;
+    new = subst (λ n. Holds tag left.2.meant (first_standing n)) tells.count left.2.begun.new;
+    torn = left.2.torn;
+  },
 )
 
 module _ (tag sectors : ℕ) (image : Image) {old new : DiskState} where

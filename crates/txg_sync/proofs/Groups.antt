@@ -2,7 +2,7 @@
 use Rattle.std.proofs.Common.{◌≡◌, ℕ, zero, suc, ◌<◌, ◌≤◌, List, [], ◌∷◌, ◌++◌, Option, Some, None, length, map, drop, get_or, refl, sym, ap, subst, ◌∙◌, arith, inl}
 use Rattle.std.specs.Prelude.{slice_set}
 use Rattle.std.specs.List.{AllByRecursion}
-use Rattle.disk_model.specs.Images.{Image, IsImage, TellsImage, Holds}
+use Rattle.disk_model.specs.Images.{Image, IsImage, TellsImage, Holds, MayTouch, Torn}
 use Rattle.disk_model.specs.Crashes.{DiskState, LeavesOnly, NothingPending}
 use Rattle.disk_model.proofs.Moments.{and_then, weakened}
 use Rattle.page_tree.specs.Chains.{SameBut, ChainLeaves, AreOpen}
@@ -18,9 +18,9 @@ use Rattle.table_state.specs.Flat.{flat_version}
 use Rattle.table_state.specs.Sealed.{ChainPart, places_in, roots_of}
 use Rattle.txg_sync.specs.Stages.{TakingLeaves, IsTaken, Takes, IsFilled, Fills}
 use Rattle.table_state.specs.Closing.{block_places}
-use Rattle.txg_sync.specs.Writing.{group_places, with_roots, StoresParts, IsUnsealed, MayBeSealed, Seals, FollowsSeal}
+use Rattle.txg_sync.specs.Writing.{group_places, with_roots, StoresParts, IsUnsealed, MayBeSealed, Seals, LeavesGate, FollowsSeal}
 use Rattle.txg_sync.proofs.Filling.{AreBehindRing, unsealed_taking, unsealed_stored, unsealed_body, sealed_gate, sealed_opened}
-use Rattle.txg_sync.proofs.Sealing.{holds_some, only_told}
+use Rattle.txg_sync.proofs.Sealing.{Torn-beside, holds_some, only_told}
 
 -- a fact of each index is one of each element
 pub each_of : {X : Type 0} (P : X → Type 0) (xs : List X) → ((k : ℕ) (d : X) → k < length xs → P (get_or xs k d)) → AllByRecursion P xs
@@ -94,6 +94,29 @@ module _ (sectors : ℕ) (enough : fewest_sectors ≤ sectors) (seal : Seal) (co
         slice_set (slice_set f.stored (body_sector slot) (body_bytes rooted)) (gate_sector slot) open_gate,
         holds_some _ filled new _ _ (fills.1 ∙ ap (λ (c : Image). Some c) f.body) opens,
         sealed_opened seal.group sectors image is enough follows.0 follows.1 follows.2 contents parts behind_ring on_disk f.taken f.is_taken f.stored f.is_stored.only f.is_stored rooted f.fits refl own_version (subst (λ n. IsImage n f.stored) is.count f.whole),
+      )
+
+  -- or its write failed
+  pub gate_left : (own_version : seal.version ≡ flat_version) (old filled new : Option Image) → TellsImage sectors old
+      → FollowsSeal seal.group old
+      → Fills contents parts rooted old filled → MayTouch filled new (gate_sector slot) → LeavesGate slot contents parts rooted old new
+  gate_left own_version None filled new is follows fills touch = tt
+  gate_left own_version (Some image) filled new is follows fills touch =
+      let f : IsFilled contents parts rooted image fills.0 = fills.2 in
+      let touched : MayTouch (Some fills.0) new (gate_sector slot) = subst (λ (o : Option Image). MayTouch o new (gate_sector slot)) fills.1
+      touch in (
+        touched.0,
+        touched.1,
+        record {
+          meant = slice_set (slice_set f.stored (body_sector slot) (body_bytes rooted)) (gate_sector slot) open_gate;
+          is_sealed =
+              sealed_opened seal.group sectors image is enough follows.0 follows.1 follows.2 contents parts behind_ring on_disk f.taken
+              f.is_taken f.stored
+              f.is_stored.only f.is_stored rooted f.fits refl own_version (subst (λ n. IsImage n f.stored) is.count f.whole);
+          torn =
+              Torn-beside (gate_sector slot) open_gate (slice_set f.stored (body_sector slot) (body_bytes rooted)) touched.0
+              (subst (λ (d : Image). Torn (gate_sector slot) d touched.0) f.body touched.2);
+        },
       )
 
   module _ (image : Image) (old : DiskState) (told : old.seen ≡ Some image) (tells : TellsImage sectors old.seen)

@@ -17,4 +17,3 @@ pub mod Syncs
 pub mod PlacedParts
 pub mod Planned
 pub mod Created
-pub mod RoomLaws

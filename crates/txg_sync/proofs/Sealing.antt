@@ -1,7 +1,9 @@
 -- What the stages of the first seal come to, one after another, where the disk tells its contents and where it doesn't.
-use Rattle.std.proofs.Common.{◌≡◌, ℕ, ◌≤◌, Option, Some, None, subst, inl}
+use Rattle.std.proofs.Common.{◌≡◌, ℕ, ◌<◌, ◌≤◌, Option, Some, None, sym, ◌∙◌, subst, inl}
 use Rattle.std.specs.Prelude.{List, slice_set}
-use Rattle.disk_model.specs.Images.{Image, IsImage, TellsImage, Holds}
+use Rattle.disk_model.specs.Images.{Image, IsImage, TellsImage, Holds, MayTouch, Torn}
+use Rattle.disk_model.proofs.Sectors.{sector_at-set_other}
+use Rattle.std.proofs.lemmas.List.{length-set}
 use Rattle.disk_model.specs.Crashes.{DiskState, LeavesOnly, NothingPending}
 use Rattle.disk_model.proofs.Moments.{and_then, weakened}
 use Rattle.uber_ring.specs.Seals.{FitsSeal, body_bytes, open_gate}
@@ -10,8 +12,16 @@ use Rattle.uber_ring.specs.declared.seal.Seal.{Seal}
 use Rattle.table_state.specs.SealForms.{new_seal, fewest_sectors, most_sectors}
 use Rattle.table_state.specs.Flat.{flat_version}
 use Rattle.txg_sync.specs.Creating.{HasNoSeal}
-use Rattle.txg_sync.specs.Stages.{TakingLeaves, IsTaken, Takes, Unbegun, Beginning, Begins}
+use Rattle.txg_sync.specs.Stages.{TakingLeaves, IsTaken, Takes, Unbegun, Beginning, Begins, LeavesFirstGate}
 use Rattle.txg_sync.proofs.Beginnings.{unbegun_taking, unbegun_body, beginning_gate, begun_opened}
+
+-- an image with a sector torn is one with that sector torn, whatever was set there
+pub Torn-beside : (at : ℕ) (bytes : List ℕ) (d c : Image) → Torn at d c → Torn at (slice_set d at bytes) c
+Torn-beside at bytes d c torn = record {
+  count = torn.count ∙ sym (length-set d at bytes);
+  others = λ i other. torn.others i other ∙ sym (sector_at-set_other d at i bytes other);
+  whole = λ within. torn.whole (subst (λ n. at < n) (length-set d at bytes) within);
+}
 
 -- told contents after a write
 pub holds_some : (image : Image) (old new : Option Image) (at : ℕ) (bytes : List ℕ) → old ≡ Some image → Holds old new at bytes → new ≡ Some (slice_set image at bytes)
@@ -35,6 +45,27 @@ begins_of tag sectors seal (Some image) mid later new enough few is none fits sa
       slice_set (slice_set taken (body_sector 1) (body_bytes (new_seal tag sectors))) (gate_sector 1) open_gate,
       holds_some _ later new _ _ seen_later opened,
       begun_opened tag sectors image is none taken takes.2 enough few (subst FitsSeal same fits),
+    )
+
+-- or the write of the gate failed
+pub first_gate_left : (tag sectors : ℕ) (seal : Seal) (old mid later new : Option Image) → fewest_sectors ≤ sectors → sectors ≤ most_sectors
+    → TellsImage sectors old → HasNoSeal old → FitsSeal seal → seal ≡ new_seal tag sectors → Takes 1 old mid
+    → Holds mid later (body_sector (slot_of seal.group)) (body_bytes seal) → MayTouch later new (gate_sector 1) → LeavesFirstGate tag old
+    new
+first_gate_left tag sectors seal None mid later new enough few is none fits same takes filled touch = tt
+first_gate_left tag sectors seal (Some image) mid later new enough few is none fits same takes filled touch =
+    let taken : Image = takes.0 in
+    let seen_later = holds_some taken mid later _ _ takes.1 (as_new tag sectors seal mid later same filled) in
+    let filled_here : Image = slice_set taken (body_sector 1) (body_bytes (new_seal tag sectors)) in
+    let touched : MayTouch (Some filled_here) new (gate_sector 1) = subst (λ (o : Option Image). MayTouch o new (gate_sector 1)) seen_later
+    touch in (
+      touched.0,
+      touched.1,
+      record {
+        meant = slice_set filled_here (gate_sector 1) open_gate;
+        begun = begun_opened tag sectors image is none taken takes.2 enough few (subst FitsSeal same fits);
+        torn = Torn-beside (gate_sector 1) open_gate filled_here touched.0 touched.2;
+      },
     )
 
 module _ (tag sectors : ℕ) (image : Image) (old : DiskState) (told : old.seen ≡ Some image) (tells : TellsImage sectors old.seen)

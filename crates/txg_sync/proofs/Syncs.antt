@@ -3,7 +3,7 @@ use Rattle.std.proofs.Common.{◌≡◌, ℕ, zero, suc, get_or, ◌+◌, ◌^�
 use Rattle.std.specs.Prelude.{replicate}
 use Rattle.std.specs.List.{AllByRecursion}
 use Rattle.std.proofs.lemmas.List.{length-map, length-replicate}
-use Rattle.disk_model.specs.Images.{Image, TellsImage}
+use Rattle.disk_model.specs.Images.{Image, TellsImage, Torn}
 use Rattle.disk_model.specs.Crashes.{DiskState, IsDisk, LeavesOnly, NothingPending}
 use Rattle.disk_model.proofs.Moments.{started, weakened}
 use Rattle.page_tree.specs.Chains.{AreOpen}
@@ -27,8 +27,8 @@ use Rattle.table_state.proofs.Held.{holds_over}
 use Rattle.table_state.proofs.Stands.{open_wider}
 use Rattle.table_state.specs.Closing.{pages_of, PlainClosed, CanSync, CanSyncOver, IsInRange, records_after}
 use Rattle.txg_sync.specs.Planning.{IsPlan}
-use Rattle.txg_sync.specs.Syncing.{KeepsNamed, BeforeGate, SyncLeaves, Syncs}
-use Rattle.txg_sync.specs.Writing.{group_places, with_roots, FollowsSeal, IsUnsealed, MayBeSealed, Seals, TouchesOnly}
+use Rattle.txg_sync.specs.Syncing.{KeepsNamed, BeforeGate, StopsAtGate, SyncLeaves, Syncs}
+use Rattle.txg_sync.specs.Writing.{group_places, with_roots, FollowsSeal, IsUnsealed, MayBeSealed, Seals, LeavesGate, TouchesOnly}
 use Rattle.txg_sync.proofs.PlacedParts.{places_as_pages}
 use Rattle.txg_sync.proofs.Outcomes.{holds_before_gate, not_written}
 use Rattle.txg_sync.proofs.Afterwards.{AreSpelt, holds_after, over_after}
@@ -102,6 +102,24 @@ module _ (held : Held) (closed : PlainClosed) (sound : IsSound held) (next : Hel
       },
     )
 
+    -- or the write of its gate failed
+    pub stops_of : (sectors : ℕ) (old new : Option Image) → TellsImage sectors old → held.sectors ≤ sectors → sectors ≤ 2 ^ 64
+        → CanSyncOver old held closed → LeavesGate (slot_of seal.group) closed.contents parts (with_roots seal parts) old new
+        → StopsAtGate old held closed new
+    stops_of sectors None new tells there small can left = tt
+    stops_of sectors (Some image) new tells there small can left = (
+      left.0,
+      left.1,
+      record {
+        meant = left.2.meant;
+        pages = places_in parts;
+        stands =
+            holds_after held closed sound range last next parts seal plan image (omega (arith, there, tells.count))
+            (omega (arith, small, tells.count)) can spelt (slot_of seal.group) left.2.meant left.2.is_sealed;
+        torn = subst (λ n. Torn (gate_sector (slot_of n)) left.2.meant left.0) seal_group_is left.2.torn;
+      },
+    )
+
     module _ (image : Image) (there : held.sectors ≤ length image) (small : length image ≤ 2 ^ 64) (can : CanSync image held closed)
         (s : Standing) (over : StandsOver image held s) where
       -- at each moment what stood or what stands after the group
@@ -152,6 +170,11 @@ module _ (seal : Seal) (blocks listed : List StoredBlock) (parts given : List Ch
       → LeavesOnly old new (MayBeSealed (slot_of seal.group) (map stored_of blocks) parts (with_roots seal parts) image)
   may_be_as_planned image {old} {new} run =
       as_planned (λ contents ps. LeavesOnly old new (MayBeSealed (slot_of seal.group) contents ps (with_roots seal ps) image)) run
+
+  pub gate_as_planned : (old new : Option Image)
+      → LeavesGate (slot_of seal.group) (map stored_of listed) given (with_roots seal given) old new
+      → LeavesGate (slot_of seal.group) (map stored_of blocks) parts (with_roots seal parts) old new
+  gate_as_planned old new left = as_planned (λ contents ps. LeavesGate (slot_of seal.group) contents ps (with_roots seal ps) old new) left
 
   pub sealed_as_planned : (old new : Option Image) → Seals (slot_of seal.group) (map stored_of listed) given (with_roots seal given) old new
       → Seals (slot_of seal.group) (map stored_of blocks) parts (with_roots seal parts) old new

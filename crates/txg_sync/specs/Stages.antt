@@ -53,6 +53,16 @@ abbrev pub Begins : (tag : ℕ) → (old new : Option Image) → Type 0
 Begins tag None new = ⊤
 Begins tag (Some image) new = (c : Image) × (new ≡ Some c) × Begun tag image c
 
+-- where the write of the first gate failed, the image is that of the new pool but for the gate
+pub record FirstGateLeft (tag : ℕ) (image c : Image) : Type 0 where
+  pub meant : Image
+  pub begun : Begun tag image meant
+  pub torn : Torn (gate_sector 1) meant c
+
+abbrev pub LeavesFirstGate : (tag : ℕ) → (old new : Option Image) → Type 0
+LeavesFirstGate tag None new = ⊤
+LeavesFirstGate tag (Some image) new = (c : Image) × (new ≡ Some c) × FirstGateLeft tag image c
+
 -- all of a group but its gate is written: its slot is taken, its blocks and pages stand at their places, and the body holds its seal
 pub record IsFilled (contents : List Stored) (parts : List ChainPart) (seal : Seal) (image c : Image) : Type 0 where
   pub taken : Image

@@ -1,6 +1,6 @@
 -- What the sync of a closed group comes to.
 use Rattle.std.specs.Prelude.{◌≡◌, ◌≢◌, ◌⊎◌, ◌+◌, ⊤, ℕ, true, List, slice_index_or, Option, Some, None}
-use Rattle.disk_model.specs.Images.{Image, sector_at}
+use Rattle.disk_model.specs.Images.{Image, Torn, sector_at}
 use Rattle.uber_ring.specs.Ring.{gate_sector, body_sector, slot_of}
 use Rattle.pool_model.specs.Group.{Standing}
 use Rattle.table_state.specs.Closing.{PlainClosed, standing_with}
@@ -31,3 +31,14 @@ pub record IsSynced (image : Image) (held : Held) (closed : PlainClosed) (next :
 abbrev pub Syncs : (old : Option Image) → (held : Held) → (closed : PlainClosed) → (next : Held) → (new : Option Image) → Type 0
 Syncs None held closed next new = ⊤
 Syncs (Some image) held closed next new = (c : Image) × (new ≡ Some c) × IsSynced image held closed next c
+
+-- where the write of the gate failed, the image is one that holds what stands after the group, but for the gate
+pub record LacksGate (image : Image) (held : Held) (closed : PlainClosed) (c : Image) : Type 0 where
+  pub meant : Image
+  pub pages : List ℕ
+  pub stands : Holds held.tag meant (standing_with image held closed pages)
+  pub torn : Torn (gate_sector (slot_of (held.group + 1))) meant c
+
+abbrev pub StopsAtGate : (old : Option Image) → (held : Held) → (closed : PlainClosed) → (new : Option Image) → Type 0
+StopsAtGate None held closed new = ⊤
+StopsAtGate (Some image) held closed new = (c : Image) × (new ≡ Some c) × LacksGate image held closed c

@@ -1,7 +1,7 @@
 -- What the stages of a group's sync leave of an image, before its gate may be open and after.
 use Rattle.std.specs.Prelude.{◌≡◌, ◌≢◌, ◌+◌, ◌⊎◌, ◌≤◌, ⊤, ℕ, ◌==◌, false, List, ◌∷◌, [], ◌++◌, length, Option, Some, None}
 use Rattle.std.specs.List.{list_any}
-use Rattle.disk_model.specs.Images.{Image, sector_at}
+use Rattle.disk_model.specs.Images.{Image, Torn, sector_at}
 use Rattle.page_tree.specs.Chains.{SameBut}
 use Rattle.page_tree.specs.Pointers.{null_pointer}
 use Rattle.uber_ring.specs.Ring.{gate_sector, body_sector, newest}
@@ -63,6 +63,16 @@ MayBeSealed slot contents parts seal image c = IsUnsealed slot (group_places con
 abbrev pub Seals : (slot : ℕ) → (contents : List Stored) → (parts : List ChainPart) → Seal → (old new : Option Image) → Type 0
 Seals slot contents parts seal None new = ⊤
 Seals slot contents parts seal (Some image) new = (c : Image) × (new ≡ Some c) × IsSealed slot contents parts seal image c
+
+-- where the write of the gate failed, the image is that of the sealed group but for the gate
+pub record GateLeft (slot : ℕ) (contents : List Stored) (parts : List ChainPart) (seal : Seal) (image c : Image) : Type 0 where
+  pub meant : Image
+  pub is_sealed : IsSealed slot contents parts seal image meant
+  pub torn : Torn (gate_sector slot) meant c
+
+abbrev pub LeavesGate : (slot : ℕ) → (contents : List Stored) → (parts : List ChainPart) → Seal → (old new : Option Image) → Type 0
+LeavesGate slot contents parts seal None new = ⊤
+LeavesGate slot contents parts seal (Some image) new = (c : Image) × (new ≡ Some c) × GateLeft slot contents parts seal image c
 
 -- the seal that counts is the one of the group before
 abbrev pub FollowsSeal : (group : ℕ) → Option Image → Type 0

@@ -3,8 +3,8 @@ ghost use Rattle.disk_model.specs.Images.{Image, Stays};
 ghost use Rattle.disk_model.specs.Crashes.{LeavesOnly, NothingPending};
 ghost use Rattle.txg_sync.specs.SyncFaults.{SealAccounts};
 ghost use Rattle.txg_sync.specs.Creating.{HasNoSeal};
-ghost use Rattle.txg_sync.specs.Stages.{Begins, Beginning, Unbegun};
-ghost use Rattle.txg_sync.specs.declared.fault.SealFault.TheVariants.{ReadFault, WriteFault};
+ghost use Rattle.txg_sync.specs.Stages.{Begins, Beginning, LeavesFirstGate, Unbegun};
+ghost use Rattle.txg_sync.specs.declared.fault.SealFault.TheVariants.{ReadFault, WriteFault, GateFault};
 
 use crate::fault::SealFault;
 use crate::fill::fill_slot;
@@ -24,6 +24,7 @@ pub fn seal_new_pool<D: Disk>(disk: &mut D, tag: u8) -> Result<(), SealFault>
     ensures durable { OnOk result (NothingPending (D.state disk.new).seen (D.state disk.new).may_leave) }
     ensures any_moment { (image : Image) → (D.state disk.old).seen ≡ Some image → NothingPending (Some image) (D.state disk.old).may_leave
         → LeavesOnly (D.state disk.old) (D.state disk.new) (Beginning tag image) }
+    ensures at_the_gate { IsErrOf result GateFault → LeavesFirstGate tag (D.state disk.old).seen (D.state disk.new).seen }
     ensures before_the_gate { (image : Image) → (D.state disk.old).seen ≡ Some image
         → NothingPending (Some image) (D.state disk.old).may_leave → IsErrOf result WriteFault
         → LeavesOnly (D.state disk.old) (D.state disk.new) (Unbegun image) }

@@ -6,7 +6,7 @@ ghost use Rattle.pool_model.specs.declared.faults.SyncFault.TheVariants.{ReadFau
 ghost use Rattle.table_state.specs.Flat.{HasNoPool};
 ghost use Rattle.table_state.specs.Pools.{new_held};
 ghost use Rattle.table_state.specs.Sound.{IsSound};
-ghost use Rattle.txg_sync.specs.Creating.{NoneOrNew, Creates, HasNoSeal};
+ghost use Rattle.txg_sync.specs.Creating.{NoneOrNew, Creates, CreatesAllButGate, HasNoSeal};
 ghost use Rattle.txg_sync.specs.Stages.{SameOutside};
 
 use crate::begin::seal_new_pool;
@@ -56,6 +56,8 @@ pub fn create<D: Disk>(alloc: Global, disk: &mut D, tag: u8) -> Result<Pool, Syn
     ensures before_the_gate { (image : Image) → (D.state disk.old).seen ≡ Some image
         → NothingPending (Some image) (D.state disk.old).may_leave → IsErrOf result WriteFault
         → LeavesOnly (D.state disk.old) (D.state disk.new) HasNoPool }
+    ensures at_the_gate { IsErrOf result GateFault
+        → CreatesAllButGate tag (D.state disk.old).sectors (D.state disk.old).seen (D.state disk.new).seen }
     ensures unwritten { IsErrOf result Memory → disk.new ≡ disk.old }
     ensures whole { (sector : ℕ) → IsErrOf result (Damaged sector) → ⊥ }
     ensures unread { IsErrOf result ReadFault → Stays (D.state disk.old).seen (D.state disk.new).seen }

@@ -7,7 +7,7 @@ ghost use Rattle.pool_model.specs.Plain.{stored_of};
 ghost use Rattle.table_state.specs.Sealed.{places_in};
 ghost use Rattle.txg_sync.specs.SyncFaults.{SealAccounts};
 ghost use Rattle.txg_sync.specs.Stages.{Fills};
-ghost use Rattle.txg_sync.specs.Writing.{with_roots, group_places, FollowsSeal, IsUnsealed, MayBeSealed, Seals};
+ghost use Rattle.txg_sync.specs.Writing.{with_roots, group_places, FollowsSeal, IsUnsealed, MayBeSealed, Seals, LeavesGate};
 ghost use Rattle.txg_sync.specs.declared.fault.SealFault.TheVariants.{ReadFault, WriteFault, GateFault};
 
 use crate::fault::SealFault;
@@ -98,6 +98,8 @@ pub fn seal_group<D: Disk>(
     ensures any_moment { (image : Image) → (D.state disk.old).seen ≡ Some image → NothingPending (Some image) (D.state disk.old).may_leave
         → LeavesOnly (D.state disk.old) (D.state disk.new)
         (MayBeSealed (slot_of seal.now.group) (map stored_of contents.now) parts.now (with_roots seal.now parts.now) image) }
+    ensures at_the_gate { IsErrOf result GateFault → LeavesGate (slot_of seal.now.group) (map stored_of contents.now) parts.now
+        (with_roots seal.now parts.now) (D.state disk.old).seen (D.state disk.new).seen }
     ensures before_the_gate { (image : Image) → (D.state disk.old).seen ≡ Some image
         → NothingPending (Some image) (D.state disk.old).may_leave → IsErrOf result WriteFault
         → LeavesOnly (D.state disk.old) (D.state disk.new)

@@ -10,7 +10,8 @@
 //! made. `create` does so for the empty pool of group 1.
 //!
 //! `specs/Planning.antt` says what is going to be written, `specs/Writing.antt` and `specs/Stages.antt` what
-//! each stage may leave, and `specs/Syncing.antt` when a group can be synced and what its sync comes to.
+//! each stage may leave, and `specs/Syncing.antt` and `specs/Creating.antt` what a sync and a creation come to.
+//! A fault tells on which side of the gate's write it was: until then what stood stands.
 #![tactic(auto)]
 
 mod begin;

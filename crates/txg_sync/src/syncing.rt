@@ -8,7 +8,7 @@ ghost use Rattle.table_state.specs.Closing.{closed_of, records_after, pages_of, 
 ghost use Rattle.table_state.specs.Holding.{StandsOver};
 ghost use Rattle.table_state.specs.SealForms.{last_group};
 ghost use Rattle.table_state.specs.Sound.{IsSound};
-ghost use Rattle.txg_sync.specs.Syncing.{Syncs, SyncLeaves, BeforeGate};
+ghost use Rattle.txg_sync.specs.Syncing.{Syncs, SyncLeaves, BeforeGate, StopsAtGate};
 ghost use Rattle.txg_sync.specs.Planning.{IsNext, IsPlan};
 ghost use Rattle.txg_sync.specs.SyncFaults.{sync_fault_of};
 
@@ -54,6 +54,8 @@ pub fn sync<D: Disk>(
     ensures before_the_gate { (image : Image) (s : Standing) → (D.state disk.old).seen ≡ Some image
         → NothingPending (Some image) (D.state disk.old).may_leave → StandsOver image pool.old s → IsErrOf result WriteFault
         → LeavesOnly (D.state disk.old) (D.state disk.new) (BeforeGate image pool.old s) }
+    ensures at_the_gate { IsErrOf result GateFault
+        → StopsAtGate (D.state disk.old).seen pool.old (closed_of closed.now) (D.state disk.new).seen }
     ensures unwritten { IsErrOf result Memory → disk.new ≡ disk.old }
     ensures damaged { (sector : ℕ) → IsErrOf result (Damaged sector) → (disk.new ≡ disk.old) × ((D.state disk.old).seen ≡ None) }
     ensures unread { IsErrOf result ReadFault → Stays (D.state disk.old).seen (D.state disk.new).seen }
@@ -105,6 +107,8 @@ fn write_plan<D: Disk>(
     ensures before_the_gate { (image : Image) (s : Standing) → (D.state disk.old).seen ≡ Some image
         → NothingPending (Some image) (D.state disk.old).may_leave → StandsOver image pool.old s → IsErrOf result WriteFault
         → LeavesOnly (D.state disk.old) (D.state disk.new) (BeforeGate image pool.old s) }
+    ensures at_the_gate { IsErrOf result GateFault
+        → StopsAtGate (D.state disk.old).seen pool.old (closed_of closed.now) (D.state disk.new).seen }
     ensures device { IsErrOf result Memory → ⊥ }
     ensures whole { (sector : ℕ) → IsErrOf result (Damaged sector) → ⊥ }
     ensures unread { IsErrOf result ReadFault → Stays (D.state disk.old).seen (D.state disk.new).seen }

@@ -1,6 +1,6 @@
 -- Each stage leaves no seal that counts, or the new one.
 use Rattle.std.proofs.Common.{◌≤◌, subst, sym}
-use Rattle.txg_sync.proofs.Sealing.{begins_of, unbegun_at_each, while_taking, while_filling, while_opening}
+use Rattle.txg_sync.proofs.Sealing.{begins_of, first_gate_left, unbegun_at_each, while_taking, while_filling, while_opening}
 use Rattle.txg_sync.proofs.begin.seal_new_pool.Goals as goal
 
 pub returns-in_err-take_slot-clause-any_moment : goal.returns-in_err-take_slot-clause-any_moment
@@ -36,6 +36,13 @@ returns-in_default-open_slot-clause-any_moment g c image told pending =
     (subst (λ n. n ≤ 1000000) (sym c.sectors.ensures.count) c.requires.few) _ c.seal_fits.ensures c.new_seal-seal.ensures
     (c.take_slot.ensures.any_moment image told pending) c.in_ok-take_slot.ensures.taken c.in_ok-take_slot.ensures.durable
     c.fill_slot.ensures.any_moment c.in-Ok.ensures.filled c.in-Ok.ensures.durable c.open_slot.ensures.any_moment
+
+pub returns-in_default-open_slot-clause-at_the_gate : goal.returns-in_default-open_slot-clause-at_the_gate
+returns-in_default-open_slot-clause-at_the_gate g c fault =
+    first_gate_left c.args.tag _ _ _ _ _ _ (subst (λ n. 2048 ≤ n) (sym c.sectors.ensures.count) c.requires.enough)
+    (subst (λ n. n ≤ 1000000) (sym c.sectors.ensures.count) c.requires.few) c.sectors.ensures.told c.requires.none
+    c.seal_fits.ensures c.new_seal-seal.ensures c.in_ok-take_slot.ensures.taken c.in-Ok.ensures.filled
+    c.in_default-open_slot.ensures.touched
 
 pub returns-clause-sealed : goal.returns-clause-sealed
 returns-clause-sealed g c =

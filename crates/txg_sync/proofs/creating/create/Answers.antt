@@ -1,10 +1,10 @@
 -- The pool in memory is that of a new seal.
-use Rattle.std.proofs.Common.{◌∙◌, ap, sym, subst}
+use Rattle.std.proofs.Common.{◌∙◌, ap, sym, subst, rules}
 use Rattle.disk_model.specs.Images.{TellsImage}
 use Rattle.table_state.specs.Pools.{new_held}
 use Rattle.table_state.specs.Sound.{IsSound}
 use Rattle.table_state.proofs.Created.{new_is_sound}
-use Rattle.txg_sync.proofs.Created.{creates_of}
+use Rattle.txg_sync.proofs.Created.{all_but_gate, creates_of}
 use Rattle.txg_sync.proofs.creating.create.Goals as goal
 
 pub returns-clause-sound : goal.returns-clause-sound
@@ -18,3 +18,9 @@ returns-clause-created g c =
     (c.in-Ok.ensures ∙ ap (new_held c.args.tag) c.sectors.ensures.count)
     (subst (λ n. TellsImage n (g.D.Disk.state c.args.disk.now).seen) c.sectors.ensures.count c.sectors.ensures.told) c.requires.enough
     c.requires.few c.in_default-sealed.ensures.sealed
+
+pub returns-in-Err-clause-at_the_gate : goal.returns-in-Err-clause-at_the_gate
+returns-in-Err-clause-at_the_gate g c fault =
+    all_but_gate c.args.tag (g.D.Disk.state c.args.disk.now).sectors _ _
+    (subst (λ n. TellsImage n (g.D.Disk.state c.args.disk.now).seen) c.sectors.ensures.count c.sectors.ensures.told)
+    (c.seal_new_pool-sealed.ensures.at_the_gate (search rules))

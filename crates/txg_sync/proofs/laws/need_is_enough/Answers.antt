@@ -1,4 +1,4 @@
-use Rattle.txg_sync.proofs.RoomLaws.{need_enough}
+use Rattle.table_state.proofs.RoomLaws.{need_enough}
 use Rattle.txg_sync.proofs.laws.need_is_enough.Goals as goal
 
 pub returns : goal.returns

@@ -10,6 +10,7 @@ use Rattle.table_state.specs.Closing.{closed_of, CanSyncOver}
 use Rattle.txg_sync.specs.Planning.{IsNext}
 use Rattle.txg_sync.proofs.Afterwards.{sound_after}
 use Rattle.txg_sync.proofs.Syncs.{stored_at, pages_after, seal_version_is, open_on_disk, follows_newest, syncs_of, while_syncing, while_filling, may_be_as_planned, unsealed_as_planned, sealed_as_planned, spelt_by}
+use Rattle.txg_sync.proofs.Syncs.{gate_as_planned, stops_of}
 use Rattle.txg_sync.proofs.syncing.write_plan.Goals as goal
 
 pub seal_group-sealed-requires-clause-follows : goal.seal_group-sealed-requires-clause-follows
@@ -75,6 +76,25 @@ returns-in-Err-clause-before_the_gate g c image s told pending over fault =
     (unsealed_as_planned c.args.planned.seal c.args.closed.now.contents.items c.as_slice-2.result.now c.args.planned.parts.items
     c.as_slice-3.result.now c.as_slice-2.ensures c.as_slice-3.ensures.value image
     (c.seal_group-sealed.ensures.before_the_gate image told pending (search rules)))
+
+pub returns-in-Err-clause-at_the_gate : goal.returns-in-Err-clause-at_the_gate
+returns-in-Err-clause-at_the_gate g c fault =
+    let sectors : ℕ = (g.D.Disk.state c.args.disk.now).sectors in
+    let count : c.sectors-sectors.result ≡ sectors = c.sectors-sectors.ensures.count in
+    let small : sectors < 2 ^ 64 = subst (λ n. n < 2 ^ 64) count c.sectors-sectors.type_inv in
+    let tells = subst (λ n. TellsImage n (g.D.Disk.state c.args.disk.now).seen) count c.sectors-sectors.ensures.told in
+    let spelt = spelt_by c.args.planned.next c.as_slice.result.now c.next.inside.table
+    (c.as_slice.ensures ∙ ap (λ (h : Held). h.slots) c.next.view_is) (ap (λ (h : Held). h.table) c.next.view_is)
+    c.slots_fit.ensures c.table_fits.ensures.zap c.table_fits.ensures.flush c.table_fits.ensures.active in
+    let left = gate_as_planned c.args.planned.seal c.args.closed.now.contents.items c.as_slice-2.result.now c.args.planned.parts.items
+    c.as_slice-3.result.now c.as_slice-2.ensures c.as_slice-3.ensures.value
+    (g.D.Disk.state c.args.disk.now).seen (g.D.Disk.state c.seal_group-sealed.new.disk).seen
+    (c.seal_group-sealed.ensures.at_the_gate (search rules)) in
+    stops_of c.args.pool.now (closed_of c.args.closed.now) c.requires.sound c.args.planned.next c.args.planned.parts.items
+    c.args.planned.seal
+    c.requires.planned c.requires.range c.requires.last spelt
+    sectors (g.D.Disk.state c.args.disk.now).seen (g.D.Disk.state c.seal_group-sealed.new.disk).seen tells c.requires.on_disk
+    (omega (arith, small)) c.requires.over left
 
 pub returns-clause-synced : goal.returns-clause-synced
 returns-clause-synced g c =
