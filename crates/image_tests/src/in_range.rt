@@ -1,17 +1,25 @@
 //! Whether a group is in its ranges: the premise of a sync on the numbers of its group, as a test.
 
-ghost use Rattle.std.specs.Prelude.{◌≡◌, ◌≤◌, ◌<◌, true, length, map, IfSome};
+ghost use Rattle.std.specs.Prelude.{◌≡◌, ◌≤◌, ◌<◌, true, length, map, Some, IfOk};
 ghost use Rattle.std.specs.List.{AllByRecursion};
+ghost use Rattle.ddt_entry.specs.declared.entry.Home.{Home};
+ghost use Rattle.ddt_entry.specs.declared.key.Key.{Key};
 ghost use Rattle.pool_model.specs.Plain.{stored_of};
+ghost use Rattle.pool_model.specs.Table.{found, sync_table};
 ghost use Rattle.table_state.specs.Flat.{IsWithin, IsChangeWithin};
 ghost use Rattle.table_state.specs.Sealed.{ChangesSlotWithin};
 ghost use Rattle.table_state.specs.SlotRecords.{is_slot, FitsSlot};
 ghost use Rattle.table_state.specs.Sound.{HasLength};
 ghost use Rattle.table_state.specs.Closing.{closed_of, IsInRange};
+ghost use Rattle.table_state.specs.Pools.{slots_after};
+ghost use Rattle.image_tests.specs.Counts.{LeavesAtMost};
 
 use ddt_entry::{Change, Entry, MAX_BLOCK_BYTES, key_of};
+use plain_table::PlainTable;
 use pool_model::{Closed, SlotChange, StoredBlock};
+use std::alloc::{AllocError, Global};
 use table_state::{Pool, SlotRecord, slot_fits};
+use txg_sync::slots_after;
 
 /// The first sector in which a block can lie.
 const FIRST_PLACE: u64 = 32;
@@ -32,24 +40,87 @@ const LAST_LANE: u32 = 15;
 const LAST_SLOT: u32 = 65_535;
 
 /// Whether what a group leaves is in its ranges, for the next group of this pool. At the end of the numbers
-/// of groups it isn't.
-pub fn is_in_range(pool: &Pool, closed: &Closed) -> bool
-    ensures { result ≡ true → IsInRange pool.now (closed_of closed.now) }
+/// of groups it isn't. The error is want of memory.
+pub(crate) fn is_in_range(alloc: Global, pool: &Pool, closed: &Closed) -> Result<bool, AllocError>
+    ensures { IfOk result (λ within. within ≡ true → IsInRange pool.now (closed_of closed.now)) }
 {
     let sectors = pool.sectors;
     let Some(group) = pool.sealed.checked_add(1) else {
-        return false;
+        return Ok(false);
     };
+    if !counts_within(alloc, pool, closed)? {
+        return Ok(false);
+    }
     if !changes_within(closed.changes.as_slice(), sectors, group) {
-        return false;
+        return Ok(false);
     }
     if !have_lengths(closed.changes.as_slice()) {
-        return false;
+        return Ok(false);
     }
     if !slots_within(closed.slots.as_slice(), sectors, group) {
+        return Ok(false);
+    }
+    Ok(blocks_within(closed.contents.as_slice(), sectors))
+}
+
+/// Whether no home that the table finds after a group counts more pointers than there are slots then. The
+/// error is want of memory.
+fn counts_within(alloc: Global, pool: &Pool, closed: &Closed) -> Result<bool, AllocError>
+    ensures { IfOk result (λ within. within ≡ true → (key : Key) (home : Home)
+        → found (sync_table closed.now.changes.items pool.now.table) key ≡ Some home
+        → home.count ≤ length (slots_after closed.now.slots.items pool.now.slots)) }
+{
+    let slots = slots_after(alloc, &pool.slots, closed.slots.as_slice())?;
+    let table = pool.table.copied(alloc)?;
+    let table = table.sync_table(alloc, closed.changes.as_slice())?;
+    Ok(table_counts(&table, slots.len()))
+}
+
+/// Whether each home of a table counts at most so many pointers.
+fn table_counts(table: &PlainTable, most: u64) -> bool
+    ensures { result ≡ true → (key : Key) (home : Home) → found table.now key ≡ Some home → home.count ≤ most }
+{
+    if !entries_count(table.zap.as_slice(), most) {
         return false;
     }
-    blocks_within(closed.contents.as_slice(), sectors)
+    if !changes_count(table.flush.as_slice(), most) {
+        return false;
+    }
+    changes_count(table.active.as_slice(), most)
+}
+
+/// Whether each entry counts at most so many pointers.
+fn entries_count(entries: &[Entry], most: u64) -> bool
+    ensures { result ≡ true → AllByRecursion (λ entry. entry.home.count ≤ most) entries.now }
+{
+    'entries: for entry in entries {
+        if entry.home.count > most {
+            return false;
+        }
+    }
+    true
+}
+
+/// Whether each change leaves its key at most so many pointers.
+fn changes_count(log: &[Change], most: u64) -> bool
+    ensures { result ≡ true → AllByRecursion (LeavesAtMost most) log.now }
+{
+    'changes: for change in log {
+        if !change_counts(change, most) {
+            return false;
+        }
+    }
+    true
+}
+
+/// Whether a change leaves its key at most so many pointers.
+fn change_counts(change: &Change, most: u64) -> bool
+    ensures { result ≡ true → LeavesAtMost most change.now }
+{
+    match change {
+        Change::Entry(entry) => entry.home.count <= most,
+        Change::Gone(_) => true,
+    }
 }
 
 /// Whether the numbers of each change are in their ranges.

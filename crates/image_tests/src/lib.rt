@@ -6,7 +6,8 @@
 //! give is written out from what was put in; none of it was taken from a run.
 //!
 //! The tests run over a disk in memory that tells nothing of its contents (`silent_disk`), as the program
-//! runs over a file: a sync asks over told contents for what only a proof can give.
+//! runs over a file: a sync asks over told contents for what only a proof can give. What a sync asks of a group's
+//! numbers is a test here (`in_range`).
 #![tactic(auto)]
 
 #[cfg(test)]
@@ -17,6 +18,8 @@ mod crashes;
 mod failures;
 #[cfg(test)]
 mod groups;
+#[cfg(test)]
+mod in_range;
 #[cfg(test)]
 mod silent_disk;
 #[cfg(test)]

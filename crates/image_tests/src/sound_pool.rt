@@ -1,3 +1,4 @@
+use crate::in_range::is_in_range;
 use crate::silent_disk::SilentDisk;
 use ddt_entry::Sha256Key;
 use disk_model::Disk;
@@ -8,7 +9,7 @@ use std::marker::Model;
 use std::process::Abort;
 use std::test::Fail;
 use table_state::{LAST_GROUP, Pool};
-use txg_sync::{create, is_in_range, sync};
+use txg_sync::{create, sync};
 
 /// A pool in memory whose numbers are in their ranges.
 #[derive(Drop)]
@@ -36,7 +37,10 @@ impl SoundPool {
         disk: &mut SilentDisk,
         closed: &Closed,
     ) -> Result<u64, SyncFault> {
-        assert!(rt; is_in_range(&self.pool, closed));
+        let Ok(within) = is_in_range(alloc, &self.pool, closed) else {
+            return Err(SyncFault::Memory);
+        };
+        assert!(rt; within);
         assert!(rt; self.pool.sealed < LAST_GROUP);
         assert!(rt; self.pool.sectors <= disk.sectors());
         match sync(alloc, &mut self.pool, disk, closed) {

@@ -2,7 +2,7 @@
 use Rattle.std.proofs.Common.{◌≤◌, ◌<◌, List, [], ◌∷◌, length, map}
 use Rattle.std.specs.List.{AllByRecursion}
 use Rattle.pool_model.specs.Plain.{stored_of}
-use Rattle.txg_sync.proofs.in_range.blocks_within.Goals as goal
+use Rattle.image_tests.proofs.in_range.blocks_within.Goals as goal
 
 -- what holds of the form of each item holds of each item's form
 all_in_map : {X Y : Type 0} (P : Y → Type 0) (f : X → Y) (xs : List X) → AllByRecursion (λ x. P (f x)) xs → AllByRecursion P (map f xs)
