@@ -18,7 +18,8 @@ use Rattle.pool_model.specs.Waiting.{AreAmong}
 use Rattle.pool_model.proofs.Laws.{report-append}
 use Rattle.pool_model.proofs.Steps.{last_standing-append, begun-append, parts_of-append, run-append, ends_at}
 use Rattle.pool_model.proofs.Stands.{any_left, any_right, at_right}
-use Rattle.pool_model.proofs.Clashes.{all_left, all_right, all_from, no_other_among, contents_of_item, trusted_by_modes}
+use Rattle.pool_model.proofs.Clashes.{no_other_among, contents_of_item, trusted_by_modes}
+use Rattle.pool_model.proofs.Lists.{all_back, all_front, all_from}
 use Rattle.table_state.specs.Holding.{Holds}
 use Rattle.table_state.specs.Pools.{Held}
 use Rattle.session.specs.Devices.{Devices, between}
@@ -34,9 +35,9 @@ use Rattle.session.specs.declared.status.Status.TheVariants.{Done, Usage, BadFil
 
 trusted_item : (P : List ℕ → Type 0) (s : Standing) (done rest : List Part) (part : Part)
     → AllByRecursion P (flat_map (part_trusted s.pool) (done ++ part ∷ rest)) → AllByRecursion P (part_trusted s.pool part)
-trusted_item P s [] rest part all = all_left P (part_trusted s.pool part) (flat_map (part_trusted s.pool) rest) all
+trusted_item P s [] rest part all = all_front P (part_trusted s.pool part) (flat_map (part_trusted s.pool) rest) all
 trusted_item P s (d ∷ done) rest part all =
-    trusted_item P s done rest part (all_right P (part_trusted s.pool d) (flat_map (part_trusted s.pool) (done ++ part ∷ rest)) all)
+    trusted_item P s done rest part (all_back P (part_trusted s.pool d) (flat_map (part_trusted s.pool) (done ++ part ∷ rest)) all)
 
 -- no two contents of the next item clash where it begins
 pub no_clash_now : (key_of : List ℕ → Key) (s at : Standing) (parts done rest : List Part) (part : Part)
