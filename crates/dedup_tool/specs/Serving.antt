@@ -2,6 +2,7 @@
 use Rattle.std.specs.Prelude.{◌≡◌, ℕ, List, Some}
 use Rattle.ddt_entry.specs.Keys.{Keying, sha256_key}
 use Rattle.disk_model.specs.Images.{Image}
+use Rattle.disk_model.specs.Crashes.{NothingPending}
 use Rattle.pool_model.specs.declared.notes.Session.{Session}
 use Rattle.pool_model.specs.Group.{lanes_in_turn}
 use Rattle.session.specs.Devices.{Devices, Input}
@@ -16,8 +17,9 @@ use Rattle.session.specs.declared.words.Word.{Word}
 abbrev pub by_sha256 : Keying
 by_sha256 = record { key_of = sha256_key; tag = 1 }
 
--- a session that ran a command file: these are its notes
+-- a session that ran a command file, with these notes, where nothing was pending at its start
 pub record Ran (devices : Devices) (input : Input) (word : Word) (image : Image) (session : Session) (status : Status) : Type 0 where
+  pub quiet : NothingPending (Some image) devices.before.may_leave
   pub over : RanOver devices input word (lanes_in_turn by_sha256) image session status
   pub read : ReadSo status input
   pub cause : HasCauseFor status word by_sha256.tag devices (faults_in session)
