@@ -14,12 +14,24 @@ use table_state::Pool;
 fn a_fault_is_told_as_what_it_was(rt: HostRuntime) -> Result<(), Fail> {
     let alloc = rt.alloc();
     let closed = two_writes(alloc)?;
-    for failing in [1, 2, 3, 4, 5, 6, 7, 8, 9, 10] {
+    // The ninth call is the write of the gate, and the tenth the barrier behind it.
+    for (failing, fault) in [
+        (1, SyncFault::WriteFault),
+        (2, SyncFault::WriteFault),
+        (3, SyncFault::WriteFault),
+        (4, SyncFault::WriteFault),
+        (5, SyncFault::WriteFault),
+        (6, SyncFault::WriteFault),
+        (7, SyncFault::WriteFault),
+        (8, SyncFault::WriteFault),
+        (9, SyncFault::GateFault),
+        (10, SyncFault::GateFault),
+    ] {
         let (mut disk, mut pool) = with_a_pointer(&rt, alloc)?;
         let made = disk.inner.calls_made();
         disk.inner.fail_call(made.saturating_add(failing));
         let answer = pool.sync(&rt, alloc, &mut disk, &closed);
-        assert_eq!(rt; answer, Err(SyncFault::WriteFault), "call {failing} fails");
+        assert_eq!(rt; answer, Err(fault), "call {failing} fails");
         assert_is_of(&rt, alloc, &pool, 2)?;
     }
     // The new seal has the first meter, the import the second, and the two syncs one each, whose one read is that

@@ -9,31 +9,13 @@ pub(crate) struct SilentDisk {
 impl Disk for SilentDisk {
     type Meter = MemMeter;
 
-    ghost use Rattle.std.specs.Prelude.{None, length};
-    ghost use Rattle.disk_model.specs.Memory.{MayBeLeft, WasLeftSince};
-    ghost use Rattle.disk_model.specs.MemoryLaws.{left_now, no_other};
+    ghost use Rattle.image_tests.specs.Silent.{silent_state, silent_is_disk};
 
-    ghost sectors_of = { λ disk. disk.inner.sectors };
-
-    ghost seen = { λ disk. None };
-
-    ghost may_leave = { λ disk c. MayBeLeft disk.inner c };
-
-    ghost clock = { λ disk. length disk.inner.calls };
-
-    ghost left_since = { λ disk since c. WasLeftSince disk.inner since c };
-
-    ghost write_faults = { λ disk. disk.inner.write_faults };
-
-    ghost read_faults = { λ disk. disk.inner.read_faults };
+    ghost state = { λ disk. silent_state disk.inner };
 
     ghost meter_faults = { λ meter. meter.failed };
 
-    ghost counts_now = { λ disk since c earlier left. left_now disk.inner since c earlier left };
-
-    ghost only_now = { λ disk c was. no_other disk.inner c was };
-
-    ghost leaves_images = { λ disk c left. left.image };
+    ghost is_disk = { λ disk. silent_is_disk disk.inner };
 
     ghost tells_alike = { λ disk other untold. untold };
 
