@@ -45,7 +45,7 @@ fourth : (a b c d : Bool) → d ≡ true → (a || b || c || d) ≡ true
 fourth a b c d e = or_behind (a || b || c) d e
 
 module _ (used : List Bool) (sectors : ℕ) (pages : List ℕ) (pool : Pool) (table : TableState)
-      (are : used ≡ used_sectors sectors pages pool table) where
+    (are : used ≡ used_sectors sectors pages pool table) where
   -- what is named is used, and so is what lies past the end
   used_if : (at : ℕ) → is_used pages pool table at ≡ true → slice_index_or used at true ≡ true
   used_if at named = ap (λ (u : List Bool). slice_index_or u at true) are ∙ by_order (nat_lt at sectors) refl
