@@ -27,7 +27,8 @@ use Rattle.table_state.specs.Closing.{PlainClosed, block_places, pages_of, pool_
 
 -- ---- The pages of the five chains
 
-pages_of-cons : (records : List (List ℕ)) (lists : List (List (List ℕ)))
+-- the pages of one list more
+pub pages_of-cons : (records : List (List ℕ)) (lists : List (List (List ℕ)))
     → pages_of (records ∷ lists) ≡ pages_for (length records) + pages_of lists
 pages_of-cons records lists = sum_by-cons (λ (rs : List (List ℕ)). pages_for (length rs)) records lists
 

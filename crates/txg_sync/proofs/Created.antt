@@ -1,16 +1,13 @@
 -- A pool in memory that was created stands for the empty pool.
-use Rattle.std.proofs.Common.{◌≡◌, ℕ, ◌≤◌, Option, Some, None, sym, subst, ap, ◌∙◌, length, arith}
-use Rattle.disk_model.specs.Crashes.{DiskState, LeavesOnly}
+use Rattle.std.proofs.Common.{◌≡◌, ℕ, ◌≤◌, Option, Some, None, sym, subst, ap, ◌∙◌, arith}
 use Rattle.disk_model.specs.Images.{Image, TellsImage}
-use Rattle.disk_model.proofs.Moments.{weakened}
 use Rattle.pool_model.specs.Run.{first_standing}
-use Rattle.table_state.specs.Flat.{HasNoPool}
 use Rattle.table_state.specs.Holding.{Holds, StandsOver}
 use Rattle.table_state.specs.Pools.{Held, new_held}
 use Rattle.table_state.specs.SealForms.{fewest_sectors, most_sectors, new_seal}
 use Rattle.table_state.proofs.Created.{new_stands_over}
-use Rattle.txg_sync.specs.Creating.{NoneOrNew, Creates, CreatesAllButGate}
-use Rattle.txg_sync.specs.Stages.{Begins, Beginning, LeavesFirstGate, SameOutside, Unbegun}
+use Rattle.txg_sync.specs.Creating.{Creates, CreatesAllButGate}
+use Rattle.txg_sync.specs.Stages.{Begins, LeavesFirstGate}
 
 pub creates_of : (tag sectors : ℕ) (held : Held) (old new : Option Image) → held ≡ new_held tag sectors → TellsImage sectors old
     → fewest_sectors ≤ sectors → sectors ≤ most_sectors → Begins tag old new → Creates old new sectors held
@@ -36,16 +33,3 @@ all_but_gate tag sectors (Some image) new tells left = (
     torn = left.2.torn;
   },
 )
-
-module _ (tag sectors : ℕ) (image : Image) {old new : DiskState} where
-  -- at each moment no seal counts, or the image holds the new pool
-  pub none_or_new : length image ≡ sectors → LeavesOnly old new (Beginning tag image) → LeavesOnly old new (NoneOrNew tag sectors)
-  none_or_new count run = weakened (NoneOrNew tag sectors) run (λ c begins. subst (λ n. NoneOrNew tag n c) count begins.shows)
-
-  -- nothing but the first slot of the ring changes
-  pub first_slot_alone : LeavesOnly old new (Beginning tag image) → LeavesOnly old new (SameOutside 1 image)
-  first_slot_alone run = weakened (SameOutside 1 image) run (λ c begins. begins.outside)
-
--- until the gate is written no seal counts
-pub none_before : (image : Image) {old new : DiskState} → LeavesOnly old new (Unbegun image) → LeavesOnly old new HasNoPool
-none_before image run = weakened HasNoPool run (λ c before. before.none)

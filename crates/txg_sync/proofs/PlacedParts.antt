@@ -5,7 +5,6 @@ use Rattle.std.specs.List.{AllByRecursion, list_any}
 use Rattle.std.proofs.lemmas.Bool.{false≢true, ltb-true}
 use Rattle.std.proofs.lemmas.Bool.Decides.{nat_tests}
 use Rattle.std.proofs.lemmas.List.{length-append, length-take}
-use Rattle.std.proofs.lemmas.List.Sums.{sum_by-cons}
 use Rattle.grant_book.specs.Sectors.{marked, AreFirstFree, FindsFree}
 use Rattle.grant_book.proofs.FreeLaws.{IsFree, found-free, found-distinct}
 use Rattle.grant_book.proofs.MarkLaws.{length-marked, marked-at}
@@ -16,12 +15,10 @@ use Rattle.reserved_list.specs.Listed.{Listed}
 use Rattle.table_state.specs.Sealed.{ChainPart, places_in}
 use Rattle.pool_model.proofs.Lists.{all_from}
 use Rattle.table_state.specs.Closing.{pages_of, block_places}
+use Rattle.table_state.proofs.RoomLaws.{pages_of-cons}
 use Rattle.txg_sync.specs.Placing.{parts_of, ArePlaced}
 
 -- ---- How many pages
-
-pages_of-cons : (records : List (List ℕ)) (lists : List (List (List ℕ))) → pages_of (records ∷ lists) ≡ pages_for (length records) + pages_of lists
-pages_of-cons records lists = sum_by-cons (λ (rs : List (List ℕ)). pages_for (length rs)) records lists
 
 -- the pages of some lists and of the next one are among those of all
 pub pages_within_all : (lists : List (Listed (List ℕ))) (i : ℕ) (records : Listed (List ℕ)) → i < length lists → records ≡ get_or lists i records

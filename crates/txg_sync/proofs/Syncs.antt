@@ -2,7 +2,7 @@
 use Rattle.std.proofs.Common.{◌≡◌, ℕ, zero, suc, get_or, ◌+◌, ◌^◌, ◌<◌, ◌≤◌, List, [], ◌∷◌, Option, Some, None, length, map, refl, sym, ap, subst, ◌∙◌, inl, inr, ⊎_elim, arith}
 use Rattle.std.specs.Prelude.{replicate}
 use Rattle.std.specs.List.{AllByRecursion}
-use Rattle.std.proofs.lemmas.List.{length-map, length-replicate}
+use Rattle.std.proofs.lemmas.List.{length-replicate}
 use Rattle.disk_model.specs.Images.{Image, TellsImage, Torn}
 use Rattle.disk_model.specs.Crashes.{DiskState, IsDisk, LeavesOnly, NothingPending}
 use Rattle.disk_model.proofs.Moments.{started, weakened}
@@ -33,15 +33,8 @@ use Rattle.txg_sync.proofs.PlacedParts.{places_as_pages}
 use Rattle.txg_sync.proofs.Outcomes.{holds_before_gate, not_written}
 use Rattle.txg_sync.proofs.Afterwards.{AreSpelt, holds_after, over_after}
 
-five_lists : (parts : List ChainPart) (a b c d e : List (List ℕ)) → map (λ part. part.records) parts ≡ a ∷ b ∷ c ∷ d ∷ e ∷ [] → length parts ≡ 5
-five_lists parts a b c d e are = sym (length-map parts (λ (part : ChainPart). part.records)) ∙ ap length are
-
 module _ (held : Held) (closed : PlainClosed) (sound : IsSound held) (next : Held) (parts : List ChainPart) (seal : Seal)
     (plan : IsPlan held closed next parts seal) where
-  -- five chains
-  pub five_chains : length parts ≡ 5
-  five_chains = five_lists parts _ _ _ _ _ plan.placed.spelled
-
   pub seal_group_is : seal.group ≡ held.group + 1
   seal_group_is = ap (λ (s : Seal). s.group) (plan.seal_is [])
 

@@ -1,4 +1,4 @@
--- How the faults of a sealing are told of a sync, and what both leave of a disk's size and counts of faults.
+-- How the faults of a sealing are told of a sync, and what a sealing leaves of a disk's size and counts of faults.
 use Rattle.std.specs.Prelude.{Result, IsErrOf}
 use Rattle.disk_model.specs.Crashes.{DiskState}
 use Rattle.disk_model.specs.Accounts.{Keeps}
@@ -20,10 +20,3 @@ pub record SealAccounts {T : Type 0} (before now : DiskState) (result : Result T
   pub read_cause : IsErrOf result seals.ReadFault → Rose before.read_faults now.read_faults
   pub write_cause : IsErrOf result seals.WriteFault → Rose before.write_faults now.write_faults
   pub gate_cause : IsErrOf result seals.GateFault → Rose before.write_faults now.write_faults
-
--- and so does a sync
-pub record SyncAccounts {T : Type 0} (before now : DiskState) (result : Result T SyncFault) : Type 0 where
-  pub keeps : Keeps before now
-  pub read_cause : IsErrOf result syncs.ReadFault → Rose before.read_faults now.read_faults
-  pub write_cause : IsErrOf result syncs.WriteFault → Rose before.write_faults now.write_faults
-  pub gate_cause : IsErrOf result syncs.GateFault → Rose before.write_faults now.write_faults
