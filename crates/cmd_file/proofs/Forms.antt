@@ -102,8 +102,8 @@ read_item_fits parts line now all less e =
       ] h
     ] e
 
-read_command_fits : (parts : List Part) (group : OpenGroup) (line : List ℕ) (now : Progress) → AllByRecursion IsItem parts → HasRoom parts (Some group)
-    → read_command parts group line ≡ Some now → Fits now
+read_command_fits : (parts : List Part) (group : OpenGroup) (line : List ℕ) (now : Progress)
+    → AllByRecursion IsItem parts → HasRoom parts (Some group) → read_command parts group line ≡ Some now → Fits now
 read_command_fits parts group line now all room e =
     let whole : Part = of_group (lanes group.moment group.tasks) in
     let further : Option Progress = cond (nat_lt (length group.tasks) 1000) (with_task parts group (task_in line)) None in

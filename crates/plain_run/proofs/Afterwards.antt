@@ -41,7 +41,8 @@ filter_map_more h xs i d ys more o within so_far here pushed =
     ∙ ap (filter_map h) (sym (take_more xs i d within))
 
 -- courses agree where their openings, pools and commands are the same
-pub same_course : (o o' : Opening) (p p' : Pool) (commands commands' : List Command) (note : GroupNote) → o ≡ o' → p ≡ p' → commands ≡ commands'
+pub same_course : (o o' : Opening) (p p' : Pool) (commands commands' : List Command) (note : GroupNote)
+    → o ≡ o' → p ≡ p' → commands ≡ commands'
     → course_of o p (fresh_of (told_of note).lanes) (lane_by_lane (map task_of commands) (told_of note))
     ≡ course_of o' p' (fresh_of (told_of note).lanes) (lane_by_lane (map task_of commands') (told_of note))
 same_course o o' p p' commands commands' note opening pool list = λ i.
