@@ -1,0 +1,63 @@
+-- What each step of the lock tells the seat that takes it.
+use Rattle.std.specs.Prelude.{◌≡◌, ℕ, ◌+◌, ◌<◌, ◌≤◌, Bool, true, ◌==◌, List, [], ◌∷◌, ◌++◌, length, drop, take, sum, slice_index, MatchBool, Option, Some, None}
+use Rattle.atomic_table.specs.Table.{Me}
+use Rattle.machine_model.specs.Histories.{History, Meaning, of_lane, IsLegal, BeginsWith}
+use Rattle.lane_lock.specs.declared.view.Stage.{Stage}
+use Rattle.lane_lock.specs.declared.view.Stage.TheVariants.{Idle, Waits, Turn}
+use Rattle.lane_lock.specs.declared.view.View.{View}
+use Rattle.lane_lock.specs.Rules.{has}
+
+-- what a seat knows and holds
+abbrev pub Sitter : Type 0 → Type 0 → Type 0 → Type 0
+Sitter M S A = Me (Option M) (View M S A)
+
+abbrev pub ticket_of : Stage → ℕ
+ticket_of (Waits n) = n
+ticket_of _ = 0
+
+-- the machine is in the seat's hand
+abbrev pub holding : {M : Type 0} → M → List (ℕ × Option M)
+holding now = (0, Some now) ∷ []
+
+module _ {M S A : Type 0} where
+  -- draw: the number found is its ticket
+  abbrev pub drew : Sitter M S A → ℕ → Sitter M S A → Type 0
+  drew m r m' = m' ≡ (record m.0 { stage = Waits r }, m.1)
+
+  -- split: the first lane is given away, with all that was seen
+  abbrev pub keeping : View M S A → View M S A
+  keeping v = record v { lanes = drop 1 v.lanes }
+
+  abbrev pub given : View M S A → View M S A
+  given v = record v { lanes = take 1 v.lanes; stage = Idle; met = []; own = [] }
+
+  -- join: the other's lanes and events beside its own, and all that both have seen
+  abbrev pub joined : View M S A → View M S A → View M S A
+  joined v w = record v { lanes = v.lanes ++ w.lanes; met = v.met ++ w.seen ∷ w.met; own = v.own ++ w.own }
+
+  abbrev pub spent : View M S A
+  spent = record { lanes = []; shares = []; stage = Idle; seen = []; met = []; own = []; origin = None }
+
+-- a machine in the hand of a seat whose turn has just come
+pub record IsInHand {M B S A : Type 0} (t : Meaning M B S A) (v : View M S A) (machine now : M) : Type 0 where
+  pub base : t.base now ≡ t.base machine
+  -- its history begins with what the seat had seen
+  pub later : BeginsWith (t.history now) v.seen
+  pub legal : IsLegal t.fits t.reply (t.base machine) [] (t.history now)
+  -- and has the seat's own events of its lanes
+  pub own : (l : ℕ) → has l v.lanes ≡ true → of_lane t.lane l v.own ≡ of_lane t.lane l (t.history now)
+  pub wide : sum v.shares ≤ t.spare now + length (t.history now)
+  -- it has room while a lane of the seat has not kept its share
+  pub room : (l : ℕ) → has l v.lanes ≡ true → length (of_lane t.lane l v.own) < slice_index v.shares l → 0 < t.spare now
+
+module _ {M B S A : Type 0} (t : Meaning M B S A) where
+  -- look at the ticket served: the turn with the machine, and all its history seen
+  abbrev pub HasTurn : View M S A → Sitter M S A → Type 0
+  HasTurn v m' = (machine now : M) × (v.origin ≡ Some machine) × IsInHand t v machine now × (m' ≡ (record v { stage = Turn; seen = t.history now }, holding now))
+
+  abbrev pub looked : Sitter M S A → ℕ → Sitter M S A → Type 0
+  looked m r m' = MatchBool (r == ticket_of m.0.stage) (HasTurn m.0 m') (m' ≡ m)
+
+  -- pass: what the machine's history has beyond what was seen is the seat's own
+  abbrev pub passed : Sitter M S A → Sitter M S A → Type 0
+  passed m m' = (now : M) → m.1 ≡ holding now → m' ≡ (record m.0 { stage = Idle; seen = t.history now; own = m.0.own ++ drop (length m.0.seen) (t.history now) }, [])
