@@ -1,7 +1,8 @@
 -- What each step of the lock tells the seat that takes it.
-use Rattle.std.specs.Prelude.{◌≡◌, ℕ, ◌+◌, ◌<◌, ◌≤◌, Bool, true, ◌==◌, List, [], ◌∷◌, ◌++◌, length, drop, take, sum, slice_index, MatchBool, Option, Some, None}
+use Rattle.std.specs.Prelude.{◌≡◌, ℕ, ◌+◌, ◌<◌, ◌≤◌, Bool, true, false, ◌==◌, List, [], ◌∷◌, ◌++◌, length, drop, take, sum, slice_index, MatchBool, Option, Some, None}
 use Rattle.atomic_table.specs.Table.{Me}
-use Rattle.machine_model.specs.Histories.{History, Meaning, of_lane, IsLegal, BeginsWith}
+use Rattle.atomic_table.specs.declared.shared.Seat.{Seat}
+use Rattle.machine_model.specs.Histories.{History, Meaning, of_lane, kept_of, AreBelow, IsLegal, BeginsWith}
 use Rattle.lane_lock.specs.declared.view.Stage.{Stage}
 use Rattle.lane_lock.specs.declared.view.Stage.TheVariants.{Idle, Waits, Turn}
 use Rattle.lane_lock.specs.declared.view.View.{View}
@@ -61,3 +62,36 @@ module _ {M B S A : Type 0} (t : Meaning M B S A) where
   -- pass: what the machine's history has beyond what was seen is the seat's own
   abbrev pub passed : Sitter M S A → Sitter M S A → Type 0
   passed m m' = (now : M) → m.1 ≡ holding now → m' ≡ (record m.0 { stage = Idle; seen = t.history now; own = m.0.own ++ drop (length m.0.seen) (t.history now) }, [])
+
+-- a step was applied to a machine
+pub record Applied {M B S A : Type 0} (t : Meaning M B S A) (now : M) (step : S) (answer : A) (after : M) : Type 0 where
+  pub gives : answer ≡ t.reply (t.base now) (t.history now) step
+  pub base : t.base after ≡ t.base now
+  pub history : t.history after ≡ t.history now ++ kept_of t.keeps step answer
+  pub spare : t.spare now + length (t.history now) ≤ t.spare after + length (t.history after)
+
+-- events that a seat may add behind what it has seen
+pub record AreNews {M B S A : Type 0} (t : Meaning M B S A) (v : View M S A) (machine : M) (news : History S A) : Type 0 where
+  pub legal : IsLegal t.fits t.reply (t.base machine) v.seen news
+  -- they are of its lanes alone
+  pub mine : (l : ℕ) → has l v.lanes ≡ false → of_lane t.lane l news ≡ []
+  pub below : AreBelow t.lane (length v.shares) news
+  -- and within their shares
+  pub within : (l : ℕ) → has l v.lanes ≡ true → length (of_lane t.lane l v.own) + length (of_lane t.lane l news) ≤ slice_index v.shares l
+
+-- the seat has a machine in hand with which it may pass the turn on
+pub record CanPass {M B S A : Type 0} (t : Meaning M B S A) (m : Sitter M S A) : Type 0 where
+  pub machine : M
+  pub now : M
+  pub news : History S A
+  pub turn : m.0.stage ≡ Turn
+  pub told : m.0.origin ≡ Some machine
+  pub hand : m.1 ≡ holding now
+  pub base : t.base now ≡ t.base machine
+  pub history : t.history now ≡ m.0.seen ++ news
+  pub wide : sum m.0.shares ≤ t.spare now + length (t.history now)
+  pub fit : AreNews t m.0 machine news
+
+-- a step leaves the seat what it is
+abbrev pub IsSame : {M S A : Type 0} → Seat (Option M) (View M S A) → Seat (Option M) (View M S A) → Type 0
+IsSame p q = (q.table_id ≡ p.table_id) × (q.id ≡ p.id)

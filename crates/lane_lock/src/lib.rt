@@ -16,5 +16,6 @@
 //! A group's lanes share one machine through this lock, and nothing else takes a lock.
 #![tactic(auto)]
 
+mod lane_table;
 mod turns;
 mod view;
