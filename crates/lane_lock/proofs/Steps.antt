@@ -6,7 +6,7 @@ use mathlib.Core.Option.{some, none, some-injective, some-ne-none}
 use native.Mathlib.Decide.{ℕ_discrete}
 use lib.ListN.{get_elem?}
 use lib.Seq.{set-get_or}
-use Rattle.atomic_table.specs.Table.{State, Me, step, keeps, takes, gives, stepped, Allows}
+use Rattle.atomic_table.specs.Table.{State, Me, Act, keeps, takes, gives, Valid, carried_after, stepped, Allows}
 use Rattle.atomic_table.proofs.Lists.{set_again, at_longer, at_last, one_turn}
 use Rattle.machine_model.specs.Histories.{History, Meaning, of_lane, AreBelow, IsLegal, BeginsWith}
 use Rattle.machine_model.proofs.HistoryLaws.{begins_longer, begins_itself, drop_front, of_lane-append, below-append, legal-append, fewer}
@@ -75,3 +75,108 @@ module _ {M B S A : Type 0} (t : Meaning M B S A) (o : Opening M) where
         },
         refl,
       )
+
+  -- nothing has changed
+  stays : (s : State (Option M) V) (id : ℕ) (me : Sitter M S A) → Rule s → get_elem? s.views id ≡ some me.0 → Rule (stepped s 1 (words s.words 1) id me.1 me.0 keeps)
+  stays s id me r at = subst (λ (z : List ℕ × List V). Rule record { words = z.0; homes = s.homes; views = z.1 }) (λ k. (sym (set-get_or s.words 1 0) k, sym (set_again s.views id me.0 at) k)) r
+
+  -- a ticket needs a lane
+  ticket_has_lane : (now : Moment S A) (seat : ℕ) (v : V) (stage : Stage) → Stands now seat v.lanes v.seen stage → tickets stage ≤ length v.lanes
+  ticket_has_lane now seat v Idle h = omega arith
+  ticket_has_lane now seat v (Waits n) h = let a : 0 < length v.lanes = h.0 in omega arith
+  ticket_has_lane now seat v Turn h = let a : 0 < length v.lanes = h.0 in omega arith
+
+  -- so no more tickets are out than there are lanes
+  few_wait : (s : State (Option M) V) (r : Rule s) → length r.now.line ≤ 16
+  few_wait s r = let a = sum_at_most (λ (u : V). tickets u.stage) (λ (u : V). length u.lanes) s.views (λ j u there. ticket_has_lane r.now j u u.stage (r.each j u there).stage) in
+      let b = r.lanes in let c = r.waiting in let d = r.few in omega arith
+
+  not_busy : (b : Bool) → ¬ (b ≡ true) → b ≡ false
+  not_busy true h = absurd (h refl)
+  not_busy false h = refl
+
+  home_if_free : (b : Bool) (P Q : Type 0) → b ≡ false → MatchBool b P Q → Q
+  home_if_free true P Q e h = absurd (true≢false e)
+  home_if_free false P Q e h = h
+
+  out_if_busy : (b : Bool) (P Q : Type 0) → b ≡ true → MatchBool b P Q → P
+  out_if_busy true P Q e h = h
+  out_if_busy false P Q e h = absurd (true≢false (sym e))
+
+  -- the ticket that is served is the first of the line, and nobody has the machine in hand
+  first_in_line : (s : State (Option M) V) (r : Rule s) (id n p : ℕ) → get_elem? r.now.line p ≡ some id → n ≡ (r.now.served + p) % 2 ^ 64 → words s.words 1 ≡ n → p ≡ 0
+  first_in_line s r id n p there is served = let a = inside r.now.line p id there in let b = few_wait s r in
+      let same : r.now.served ≡ r.now.served + p = one_turn r.now.served (r.now.served + p) (2 ^ 64) (omega arith) (omega arith) (sym r.words.serves ∙ (served ∙ is)) in omega arith
+
+  -- the moment at which the head of the line has the machine
+  abbrev taken : Moment S A → Moment S A
+  taken now = record now { busy = true }
+
+  -- who stands behind the head of the line still does
+  stands_behind : (now : Moment S A) (id j : ℕ) (lanes : List ℕ) (seen : History S A) (stage : Stage) → get_elem? now.line 0 ≡ some id → j ≢ id → Stands now j lanes seen stage → Stands (taken now) j lanes seen stage
+  stands_behind now id j lanes seen Idle first other h = tt
+  stands_behind now id j lanes seen (Waits n) first other h = (h.0, (h.1.0, h.1.1, h.1.2,
+      λ _. dite (ℕ_discrete h.1.0 0) (λ e. absurd (other (one_there now.line 0 j id (subst (λ (z : ℕ). get_elem? now.line z ≡ some j) e h.1.1) first))) (λ ne. omega arith)))
+  stands_behind now id j lanes seen Turn first other h = (h.0, refl, h.2, h.3)
+
+  -- what a seat knows of the machine that it takes
+  in_hand : (now : Moment S A) (id : ℕ) (v : V) (machine : M) → Knows t o now id v → IsLawful t o now.log → IsAt t o now.log machine → 0 < length v.lanes → IsInHand t v o.machine machine
+  in_hand now id v machine k lawful at some_lane = let told = k.told some_lane in record {
+    base = at.base;
+    later = subst (λ (z : History S A). BeginsWith z v.seen) (sym at.history) k.seen;
+    legal = subst (λ (z : History S A). IsLegal t.fits t.reply (t.base o.machine) [] z) (sym at.history) lawful.legal;
+    own = λ l h. k.own l h ∙ ap (of_lane t.lane l) (sym at.history);
+    wide = let a = at.room in let b = ap (λ (z : List ℕ). sum z) told.1 in let c = ap (λ (z : History S A). length z) at.history in omega arith;
+    room = λ l h less. let a = fewer t.lane o.shares now.log l lawful.below lawful.shared (k.kept l h).1
+        (let b = ap (λ (z : List ℕ). slice_index z l) told.1 in let c = ap (λ (z : History S A). length z) (k.own l h) in omega arith) in let d = at.room in omega arith;
+  }
+
+  -- the slot is home, and the seat takes the machine out of it
+  takes_turn : (s : State (Option M) V) (r : Rule s) (id n : ℕ) (v : V) → get_elem? s.views id ≡ some v → v.stage ≡ Waits n → words s.words 1 ≡ n
+      → (w : V) × (a : Act (Option M)) × Valid s.homes [] a × Rule (stepped s 1 (words s.words 1) id [] w a) × HasTurn t v (w, carried_after [] a)
+  takes_turn s r id n v at waits served =
+      let now : Moment S A = r.now in let k = r.each id v at in let st = subst (Stands now id v.lanes v.seen) waits k.stage in let p : ℕ = st.1.0 in
+      let first : p ≡ 0 = first_in_line s r id n p st.1.1 st.1.2 served in let head : get_elem? now.line 0 ≡ some id = subst (λ (z : ℕ). get_elem? now.line z ≡ some id) first st.1.1 in
+      let free : now.busy ≡ false = not_busy now.busy (λ b. let h = st.1.3 b in omega arith) in let home = home_if_free now.busy _ _ free r.home in let machine : M = home.0 in
+      let w : V = record v { stage = Turn; seen = t.history machine } in let one_before : tickets v.stage ≡ 1 = ap tickets waits in let there = inside now.line 0 id head in (
+        w,
+        takes 0 (Some machine),
+        ap (λ (hs : List _). get_elem? hs 0) home.1,
+        record {
+          now = taken now;
+          words = subst (λ (ws : List ℕ). AreTickets ws now.served (length now.line)) (sym (set-get_or s.words 1 0)) r.words;
+          few = r.few;
+          lanes = let a = sum_set (λ (u : V). length u.lanes) s.views id v w at in let b = r.lanes in let g : sum_by (λ (u : V). length u.lanes) (set s.views id w) ≤ length o.shares = omega arith in g;
+          waiting = let a = sum_set (λ (u : V). tickets u.stage) s.views id v w at in let b = r.waiting in let g : sum_by (λ (u : V). tickets u.stage) (set s.views id w) ≡ length now.line = omega arith in g;
+          occupied = λ _. there;
+          home = ap (λ (hs : List _). set hs 0 none) home.1;
+          lawful = r.lawful;
+          each = each_set (Knows t o (taken now)) s.views id w
+              record {
+                told = k.told;
+                kept = k.kept;
+                seen = subst (λ (z : History S A). BeginsWith z (t.history machine)) home.2.history (begins_itself (t.history machine));
+                met = k.met;
+                own = k.own;
+                others = k.others;
+                stage = (st.0, refl, head, home.2.history);
+              }
+              (λ j u other at_j. let u_knows = r.each j u at_j in knows_at now now.line now.served true j u u_knows (stands_behind now id j u.lanes u.seen u.stage head other u_knows.stage));
+        },
+        (o.machine, machine, (k.told st.0).0, in_hand now id v machine k r.lawful home.2 st.0, refl),
+      )
+
+  -- what a look tells, by whether the ticket is served
+  abbrev Told : V → List (ℕ × Option M) → Bool → Sitter M S A → Type 0
+  Told v cs b m = MatchBool b (HasTurn t v m) (m ≡ (v, cs))
+
+  pub looks : (slots id n : ℕ) (me : Sitter M S A) → me.0.stage ≡ Waits n → me.1 ≡ [] → Allows Rule slots id me 1 (λ x. x) (looked t me)
+  looks slots id n me waits empty s r _ at _ =
+      let v : V = me.0 in let x : ℕ = words s.words 1 in let ticket : ticket_of v.stage ≡ n = ap ticket_of waits in
+      dite (ℕ_discrete x n)
+      (λ hit. subst
+          (λ (cs : List (ℕ × Option M)). (w : V) × (a : Act (Option M)) × Valid s.homes cs a × Rule (stepped s 1 x id cs w a) × Told v cs (x == ticket_of v.stage) (w, carried_after cs a))
+          (sym empty)
+          (let h = takes_turn s r id n v at waits hit in
+          (h.0, h.1, h.2, h.3, subst (λ b. Told v [] b (h.0, carried_after [] h.1)) (sym (eq-eqb x (ticket_of v.stage) (hit ∙ sym ticket))) h.4)))
+      (λ miss. (v, keeps, tt, stays s id me r at, subst (λ b. Told v me.1 b me) (sym (ne_eqb x (ticket_of v.stage) (λ e. miss (e ∙ ticket)))) refl))
