@@ -180,3 +180,110 @@ module _ {M B S A : Type 0} (t : Meaning M B S A) (o : Opening M) where
           (let h = takes_turn s r id n v at waits hit in
           (h.0, h.1, h.2, h.3, subst (λ b. Told v [] b (h.0, carried_after [] h.1)) (sym (eq-eqb x (ticket_of v.stage) (hit ∙ sym ticket))) h.4)))
       (λ miss. (v, keeps, tt, stays s id me r at, subst (λ b. Told v me.1 b me) (sym (ne_eqb x (ticket_of v.stage) (λ e. miss (e ∙ ticket)))) refl))
+
+  -- the moment after the head of the line has passed the turn on
+  abbrev left : Moment S A → History S A → Moment S A
+  left now news = record now { log = now.log ++ news; line = drop 1 now.line; served = now.served + 1; busy = false }
+
+  dropped : (xs : List ℕ) (p j : ℕ) → get_elem? xs p ≡ some j → 0 < p → (q : ℕ) × (p ≡ q + 1) × (get_elem? (drop 1 xs) q ≡ some j)
+  dropped [] p j there behind = absurd (some-ne-none j (sym there))
+  dropped (x ∷ xs) zero j there behind = absurd (omega arith)
+  dropped (x ∷ xs) (suc q) j there behind = (q, omega arith, there)
+
+  -- who stands behind moves up
+  moves_up : (now : Moment S A) (news : History S A) (id j : ℕ) (lanes : List ℕ) (seen : History S A) (stage : Stage) → now.busy ≡ true → get_elem? now.line 0 ≡ some id → j ≢ id
+      → Stands now j lanes seen stage → Stands (left now news) j lanes seen stage
+  moves_up now news id j lanes seen Idle busy first other h = tt
+  moves_up now news id j lanes seen (Waits n) busy first other h = let d = dropped now.line h.1.0 j h.1.1 (h.1.3 busy) in
+      (h.0, (d.0, d.2, h.1.2 ∙ ap (λ (z : ℕ). z % 2 ^ 64) (let e = d.1 in omega arith), λ b. absurd (true≢false (sym b))))
+  moves_up now news id j lanes seen Turn busy first other h = absurd (other (one_there now.line 0 j id h.2 first))
+
+  -- the events of a lane, where what is new has none of it
+  none_new : (l : ℕ) (xs news : History S A) → of_lane t.lane l news ≡ [] → of_lane t.lane l (xs ++ news) ≡ of_lane t.lane l xs
+  none_new l xs news nothing = of_lane-append t.lane l xs news ∙ (ap (λ (z : History S A). of_lane t.lane l xs ++ z) nothing ∙ append-nil (of_lane t.lane l xs))
+
+  -- the history with what is new
+  lawful_with : (now : Moment S A) (id : ℕ) (v : V) (news : History S A) → IsLawful t o now.log → Knows t o now id v → v.seen ≡ now.log → v.shares ≡ o.shares → AreNews t v o.machine news → IsLawful t o (now.log ++ news)
+  lawful_with now id v news r k seen shares fit = record {
+    legal = legal-append t.fits t.reply (t.base o.machine) [] now.log news r.legal (subst (λ (z : History S A). IsLegal t.fits t.reply (t.base o.machine) z news) seen fit.legal);
+    below = below-append t.lane (length o.shares) now.log news r.below (subst (λ (z : List ℕ). AreBelow t.lane (length z) news) shares fit.below);
+    shared = λ l h. by_keeping l h (has l v.lanes) refl;
+  }
+    where
+      by_keeping : (l : ℕ) → l < length o.shares → (b : Bool) → has l v.lanes ≡ b → length (of_lane t.lane l (now.log ++ news)) ≤ slice_index o.shares l
+      by_keeping l h true mine = let a = fit.within l mine in let b = ap (λ (z : History S A). length z) (k.own l mine) in let c = ap (λ (z : List ℕ). slice_index z l) shares in
+          let d = ap (λ (z : History S A). length z) (of_lane-append t.lane l now.log news) in let e = length-append (of_lane t.lane l now.log) (of_lane t.lane l news) in omega arith
+      by_keeping l h false other = let a = ap (λ (z : History S A). length z) (none_new l now.log news (fit.mine l other)) in let b = r.shared l h in omega arith
+
+  -- what the seat knows that passes the turn on
+  knows_left : (now : Moment S A) (id : ℕ) (v : V) (news all : History S A) → Knows t o now id v → v.seen ≡ now.log → all ≡ v.seen ++ news → ((l : ℕ) → has l v.lanes ≡ false → of_lane t.lane l news ≡ [])
+      → Knows t o (left now news) id record v { stage = Idle; seen = all; own = v.own ++ drop (length v.seen) all }
+  knows_left now id v news all k seen is mine =
+      let behind : drop (length v.seen) all ≡ news = ap (λ (z : History S A). drop (length v.seen) z) is ∙ drop_front v.seen news in let whole : all ≡ now.log ++ news = is ∙ ap (λ (z : History S A). z ++ news) seen in record {
+        told = k.told;
+        kept = k.kept;
+        seen = subst (λ (z : History S A). BeginsWith z all) whole (begins_itself all);
+        met = λ i x there. begins_longer now.log x news (k.met i x there);
+        own = λ l h. ap (λ (z : History S A). of_lane t.lane l (v.own ++ z)) behind ∙ (of_lane-append t.lane l v.own news
+            ∙ (ap (λ (z : History S A). z ++ of_lane t.lane l news) (k.own l h) ∙ sym (of_lane-append t.lane l now.log news)));
+        others = λ l h. ap (λ (z : History S A). of_lane t.lane l (v.own ++ z)) behind ∙ (none_new l v.own news (mine l h) ∙ k.others l h);
+        stage = tt;
+      }
+
+  -- and what another seat knows
+  knows_still : (now : Moment S A) (id j : ℕ) (v u : V) (news : History S A) → Knows t o now id v → Knows t o now j u → now.busy ≡ true → get_elem? now.line 0 ≡ some id → j ≢ id
+      → ((l : ℕ) → has l v.lanes ≡ false → of_lane t.lane l news ≡ []) → Knows t o (left now news) j u
+  knows_still now id j v u news k u_knows busy first other mine = record {
+    told = u_knows.told;
+    kept = u_knows.kept;
+    seen = begins_longer now.log u.seen news u_knows.seen;
+    met = λ i x there. begins_longer now.log x news (u_knows.met i x there);
+    own = λ l h. u_knows.own l h ∙ sym (none_new l now.log news (mine l (not_busy (has l v.lanes) (λ is. other (sym (u_knows.kept l h).0 ∙ (k.kept l is).0)))));
+    others = u_knows.others;
+    stage = moves_up now news id j u.lanes u.seen u.stage busy first other u_knows.stage;
+  }
+
+  abbrev machine_in : M → List (ℕ × Option M) → M
+  machine_in m ((k, Some x) ∷ cs) = x
+  machine_in m _ = m
+
+  abbrev origin_in : M → Option M → M
+  origin_in m (Some x) = x
+  origin_in m None = m
+
+  pub leaves : (slots id : ℕ) (me : Sitter M S A) → CanPass t me → Allows Rule slots id me 1 (λ n. (n + 1) % 2 ^ 64) (λ _. passed t me)
+  leaves slots id me can s r _ at _ =
+      let v : V = me.0 in let x : ℕ = words s.words 1 in let now : Moment S A = r.now in let k = r.each id v at in let st = subst (Stands now id v.lanes v.seen) can.turn k.stage in
+      let told = k.told st.0 in let one : can.machine ≡ o.machine = ap (origin_in can.machine) (sym can.told ∙ told.0) in let news : History S A = can.news in let m : M = can.now in
+      let fit = subst (λ (z : M). AreNews t v z news) one can.fit in let out = out_if_busy now.busy _ _ st.1 r.home in let all : History S A = t.history m in
+      let whole : all ≡ now.log ++ news = can.history ∙ ap (λ (z : History S A). z ++ news) st.3 in let w : V = record v { stage = Idle; seen = all; own = v.own ++ drop (length v.seen) all } in
+      let one_before : tickets v.stage ≡ 1 = ap tickets can.turn in let there = inside now.line 0 id st.2 in let wide = r.words.wide in let shorter = length-drop 1 now.line in
+      subst
+      (λ (cs : List (ℕ × Option M)). (w : V) × (a : Act (Option M)) × Valid s.homes cs a × Rule (stepped s 1 ((x + 1) % 2 ^ 64) id cs w a) × passed t (v, cs) (w, carried_after cs a))
+      (sym can.hand)
+      (
+        w,
+        gives,
+        tt,
+        record {
+          now = left now news;
+          words = record {
+            wide = length-set s.words 1 ((x + 1) % 2 ^ 64) ∙ wide;
+            next = get_or-set_other s.words 1 0 ((x + 1) % 2 ^ 64) 0 (λ e. omega arith) ∙ (r.words.next ∙ ap (λ (z : ℕ). z % 2 ^ 64) (let e : now.served + length now.line ≡ now.served + 1 + length (drop 1 now.line) = omega arith in e));
+            serves = get_or-set_same s.words 1 ((x + 1) % 2 ^ 64) 0 (omega arith) ∙ (ap (λ (z : ℕ). (z + 1) % 2 ^ 64) r.words.serves ∙ mod-add-mod now.served (2 ^ 64) 1);
+          };
+          few = r.few;
+          lanes = let a = sum_set (λ (u : V). length u.lanes) s.views id v w at in let b = r.lanes in let g : sum_by (λ (u : V). length u.lanes) (set s.views id w) ≤ length o.shares = omega arith in g;
+          waiting = let a = sum_set (λ (u : V). tickets u.stage) s.views id v w at in let b = r.waiting in let g : sum_by (λ (u : V). tickets u.stage) (set s.views id w) ≡ length (drop 1 now.line) = omega arith in g;
+          occupied = λ b. absurd (true≢false (sym b));
+          home = (m, ap (λ (hs : List _). set hs 0 (some (Some m))) out, record {
+            base = can.base ∙ ap t.base one;
+            history = whole;
+            room = let a = can.wide in let b = ap (λ (z : List ℕ). sum z) told.1 in let c = ap (λ (z : History S A). length z) whole in let g : sum o.shares ≤ t.spare m + length (now.log ++ news) = omega arith in g;
+          });
+          lawful = lawful_with now id v news r.lawful k st.3 told.1 fit;
+          each = each_set (Knows t o (left now news)) s.views id w (knows_left now id v news all k st.3 can.history fit.mine)
+              (λ j u other at_j. knows_still now id j v u news k (r.each j u at_j) st.1 st.2 other fit.mine);
+        },
+        (λ m' e. ap (λ (z : M). (record v { stage = Idle; seen = t.history z; own = v.own ++ drop (length v.seen) (t.history z) }, [])) (ap (machine_in m) e)),
+      )
