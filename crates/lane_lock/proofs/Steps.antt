@@ -27,6 +27,16 @@ module _ {S A : Type 0} where
   stands_in_longer now id seat lanes seen (Waits n) h = (h.0, (h.1.0, at_longer now.line (id ∷ []) h.1.0 seat h.1.1, h.1.2, h.1.3))
   stands_in_longer now id seat lanes seen Turn h = (h.0, h.1, at_longer now.line (id ∷ []) 0 seat h.2, h.3)
 
+module _ {M : Type 0} where
+  -- the machine in a hand, and the one of an opening
+  abbrev pub machine_in : M → List (ℕ × Option M) → M
+  machine_in m ((k, Some x) ∷ cs) = x
+  machine_in m _ = m
+
+  abbrev pub origin_in : M → Option M → M
+  origin_in m (Some x) = x
+  origin_in m None = m
+
 module _ {M B S A : Type 0} (t : Meaning M B S A) (o : Opening M) where
   abbrev V : Type 0
   V = View M S A
@@ -115,8 +125,15 @@ module _ {M B S A : Type 0} (t : Meaning M B S A) (o : Opening M) where
   -- who stands behind the head of the line still does
   stands_behind : (now : Moment S A) (id j : ℕ) (lanes : List ℕ) (seen : History S A) (stage : Stage) → get_elem? now.line 0 ≡ some id → j ≢ id → Stands now j lanes seen stage → Stands (taken now) j lanes seen stage
   stands_behind now id j lanes seen Idle first other h = tt
-  stands_behind now id j lanes seen (Waits n) first other h = (h.0, (h.1.0, h.1.1, h.1.2,
-      λ _. dite (ℕ_discrete h.1.0 0) (λ e. absurd (other (one_there now.line 0 j id (subst (λ (z : ℕ). get_elem? now.line z ≡ some j) e h.1.1) first))) (λ ne. omega arith)))
+  stands_behind now id j lanes seen (Waits n) first other h = (
+    h.0,
+    (
+      h.1.0,
+      h.1.1,
+      h.1.2,
+      λ _. dite (ℕ_discrete h.1.0 0) (λ e. absurd (other (one_there now.line 0 j id (subst (λ (z : ℕ). get_elem? now.line z ≡ some j) e h.1.1) first))) (λ ne. omega arith),
+    ),
+  )
   stands_behind now id j lanes seen Turn first other h = (h.0, refl, h.2, h.3)
 
   -- what a seat knows of the machine that it takes
@@ -175,10 +192,10 @@ module _ {M B S A : Type 0} (t : Meaning M B S A) (o : Opening M) where
       let v : V = me.0 in let x : ℕ = words s.words 1 in let ticket : ticket_of v.stage ≡ n = ap ticket_of waits in
       dite (ℕ_discrete x n)
       (λ hit. subst
-          (λ (cs : List (ℕ × Option M)). (w : V) × (a : Act (Option M)) × Valid s.homes cs a × Rule (stepped s 1 x id cs w a) × Told v cs (x == ticket_of v.stage) (w, carried_after cs a))
-          (sym empty)
-          (let h = takes_turn s r id n v at waits hit in
-          (h.0, h.1, h.2, h.3, subst (λ b. Told v [] b (h.0, carried_after [] h.1)) (sym (eq-eqb x (ticket_of v.stage) (hit ∙ sym ticket))) h.4)))
+      (λ (cs : List (ℕ × Option M)). (w : V) × (a : Act (Option M)) × Valid s.homes cs a × Rule (stepped s 1 x id cs w a) × Told v cs (x == ticket_of v.stage) (w, carried_after cs a))
+      (sym empty)
+      (let h = takes_turn s r id n v at waits hit in
+      (h.0, h.1, h.2, h.3, subst (λ b. Told v [] b (h.0, carried_after [] h.1)) (sym (eq-eqb x (ticket_of v.stage) (hit ∙ sym ticket))) h.4)))
       (λ miss. (v, keeps, tt, stays s id me r at, subst (λ b. Told v me.1 b me) (sym (ne_eqb x (ticket_of v.stage) (λ e. miss (e ∙ ticket)))) refl))
 
   -- the moment after the head of the line has passed the turn on
@@ -243,14 +260,6 @@ module _ {M B S A : Type 0} (t : Meaning M B S A) (o : Opening M) where
     stage = moves_up now news id j u.lanes u.seen u.stage busy first other u_knows.stage;
   }
 
-  abbrev machine_in : M → List (ℕ × Option M) → M
-  machine_in m ((k, Some x) ∷ cs) = x
-  machine_in m _ = m
-
-  abbrev origin_in : M → Option M → M
-  origin_in m (Some x) = x
-  origin_in m None = m
-
   pub leaves : (slots id : ℕ) (me : Sitter M S A) → CanPass t me → Allows Rule slots id me 1 (λ n. (n + 1) % 2 ^ 64) (λ _. passed t me)
   leaves slots id me can s r _ at _ =
       let v : V = me.0 in let x : ℕ = words s.words 1 in let now : Moment S A = r.now in let k = r.each id v at in let st = subst (Stands now id v.lanes v.seen) can.turn k.stage in
@@ -260,8 +269,7 @@ module _ {M B S A : Type 0} (t : Meaning M B S A) (o : Opening M) where
       let one_before : tickets v.stage ≡ 1 = ap tickets can.turn in let there = inside now.line 0 id st.2 in let wide = r.words.wide in let shorter = length-drop 1 now.line in
       subst
       (λ (cs : List (ℕ × Option M)). (w : V) × (a : Act (Option M)) × Valid s.homes cs a × Rule (stepped s 1 ((x + 1) % 2 ^ 64) id cs w a) × passed t (v, cs) (w, carried_after cs a))
-      (sym can.hand)
-      (
+      (sym can.hand) (
         w,
         gives,
         tt,
@@ -276,11 +284,15 @@ module _ {M B S A : Type 0} (t : Meaning M B S A) (o : Opening M) where
           lanes = let a = sum_set (λ (u : V). length u.lanes) s.views id v w at in let b = r.lanes in let g : sum_by (λ (u : V). length u.lanes) (set s.views id w) ≤ length o.shares = omega arith in g;
           waiting = let a = sum_set (λ (u : V). tickets u.stage) s.views id v w at in let b = r.waiting in let g : sum_by (λ (u : V). tickets u.stage) (set s.views id w) ≡ length (drop 1 now.line) = omega arith in g;
           occupied = λ b. absurd (true≢false (sym b));
-          home = (m, ap (λ (hs : List _). set hs 0 (some (Some m))) out, record {
-            base = can.base ∙ ap t.base one;
-            history = whole;
-            room = let a = can.wide in let b = ap (λ (z : List ℕ). sum z) told.1 in let c = ap (λ (z : History S A). length z) whole in let g : sum o.shares ≤ t.spare m + length (now.log ++ news) = omega arith in g;
-          });
+          home = (
+            m,
+            ap (λ (hs : List _). set hs 0 (some (Some m))) out,
+            record {
+              base = can.base ∙ ap t.base one;
+              history = whole;
+              room = let a = can.wide in let b = ap (λ (z : List ℕ). sum z) told.1 in let c = ap (λ (z : History S A). length z) whole in let g : sum o.shares ≤ t.spare m + length (now.log ++ news) = omega arith in g;
+            },
+          );
           lawful = lawful_with now id v news r.lawful k st.3 told.1 fit;
           each = each_set (Knows t o (left now news)) s.views id w (knows_left now id v news all k st.3 can.history fit.mine)
               (λ j u other at_j. knows_still now id j v u news k (r.each j u at_j) st.1 st.2 other fit.mine);

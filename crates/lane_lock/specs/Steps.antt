@@ -70,6 +70,10 @@ pub record Applied {M B S A : Type 0} (t : Meaning M B S A) (now : M) (step : S)
   pub history : t.history after ≡ t.history now ++ kept_of t.keeps step answer
   pub spare : t.spare now + length (t.history now) ≤ t.spare after + length (t.history after)
 
+-- the machine in the seat's hand took a step
+abbrev pub HasApplied : {M B S A : Type 0} → Meaning M B S A → S → A → Sitter M S A → Sitter M S A → Type 0
+HasApplied {M} t step answer m m' = (now after : M) × (m.1 ≡ holding now) × (m' ≡ (m.0, holding after)) × Applied t now step answer after
+
 -- events that a seat may add behind what it has seen
 pub record AreNews {M B S A : Type 0} (t : Meaning M B S A) (v : View M S A) (machine : M) (news : History S A) : Type 0 where
   pub legal : IsLegal t.fits t.reply (t.base machine) v.seen news
@@ -95,3 +99,7 @@ pub record CanPass {M B S A : Type 0} (t : Meaning M B S A) (m : Sitter M S A) :
 -- a step leaves the seat what it is
 abbrev pub IsSame : {M S A : Type 0} → Seat (Option M) (View M S A) → Seat (Option M) (View M S A) → Type 0
 IsSame p q = (q.table_id ≡ p.table_id) × (q.id ≡ p.id)
+
+-- what the opening told stays
+abbrev pub IsTold : {M S A : Type 0} → View M S A → View M S A → Type 0
+IsTold v w = (w.origin ≡ v.origin) × (w.shares ≡ v.shares)

@@ -1,9 +1,9 @@
 //! The steps of the lock on its words and its slot, each with what it tells the seat that takes it.
-ghost use Rattle.std.specs.Prelude.{◌≡◌, ℕ, ◌+◌, ◌<◌, ◌≤◌, true, [], ◌∷◌, ◌++◌, length, MatchBool};
-ghost use Rattle.machine_model.specs.Histories.{meaning, kept_of};
+ghost use Rattle.std.specs.Prelude.{◌≡◌, ◌<◌, [], length, slice_index, MatchBool, Some};
+ghost use Rattle.machine_model.specs.Histories.{meaning};
 ghost use Rattle.lane_lock.specs.declared.view.Stage.TheVariants.{Idle, Waits};
-ghost use Rattle.lane_lock.specs.Rules.{has};
-ghost use Rattle.lane_lock.specs.Steps.{drew, looked, HasTurn, passed, holding, CanPass, Applied, IsSame};
+ghost use Rattle.lane_lock.specs.Seats.{seat_view, IsAtRest, Answers};
+ghost use Rattle.lane_lock.specs.Steps.{drew, HasTurn, passed, holding, CanPass, HasApplied, IsSame, IsTold};
 
 use crate::turns::{Draw, Look, Pass, Turns};
 use crate::view::{Start, View};
@@ -77,7 +77,7 @@ impl<M: Machine> LaneTable<M> {
         requires ours { place.old.table_id ≡ self.now.table.shared.table_id }
         requires can { (now : M) × (place.old.me.1 ≡ holding now) × M.fits (M.base now) step × (0 < M.spare now) }
         ensures same { IsSame place.old place.new }
-        ensures applied { (now after : M) × (place.old.me.1 ≡ holding now) × (place.new.me ≡ (place.old.me.0, holding after)) × Applied (meaning M.base M.history M.spare M.lane_of M.fits M.reply M.keeps) now step result after }
+        ensures applied { HasApplied (meaning M.base M.history M.spare M.lane_of M.fits M.reply M.keeps) step result place.old.me place.new.me }
     {
         let Some(mut machine) = self.table.shared.exchange(place, MACHINE, None) else {
             unreachable!()
@@ -97,5 +97,23 @@ impl<M: Machine> LaneTable<M> {
         ensures passed { passed (meaning M.base M.history M.spare M.lane_of M.fits M.reply M.keeps) place.old.me place.new.me }
     {
         self.table.shared.fetch_add::<Pass<M>>(place, SERVED, 1);
+    }
+
+    /// Takes a turn with one step.
+    pub fn act<R: Wait>(&self, rt: &R, place: &mut Place<M>, step: M::Step) -> M::Answer
+        requires ours { place.old.table_id ≡ self.now.table.shared.table_id }
+        requires rest { IsAtRest (meaning M.base M.history M.spare M.lane_of M.fits M.reply M.keeps) (M.lane_of step) place.old.me }
+        requires told { place.old.me.0.origin ≡ Some self.now.table.shared.key.machine.value }
+        requires fits { M.fits (M.base self.now.table.shared.key.machine.value) step }
+        requires room { length place.old.me.0.own < slice_index place.old.me.0.shares (M.lane_of step) }
+        ensures same { IsSame place.old place.new }
+        ensures told { IsTold place.old.me.0 place.new.me.0 }
+        ensures rest { IsAtRest (meaning M.base M.history M.spare M.lane_of M.fits M.reply M.keeps) (M.lane_of step) place.new.me }
+        ensures act { Answers (meaning M.base M.history M.spare M.lane_of M.fits M.reply M.keeps) (M.base self.now.table.shared.key.machine.value) (seat_view place.old.table_id (M.lane_of step) place.old.me) (seat_view place.new.table_id (M.lane_of step) place.new.me) step result }
+    {
+        self.take_turn(rt, place);
+        let answer = self.apply_in_hand(place, step);
+        self.pass(place);
+        answer
     }
 }

@@ -17,5 +17,10 @@
 #![tactic(auto)]
 
 mod lane_table;
+mod lock;
+mod seat;
 mod turns;
 mod view;
+
+pub use lock::LaneLock;
+pub use seat::{Seat, lane};
