@@ -17,6 +17,18 @@ use Rattle.lane_lock.specs.Rules.{Opening, Moment, has, tickets, Stands, Knows, 
 use Rattle.lane_lock.specs.Steps.{Sitter, ticket_of, holding, drew, IsInHand, HasTurn, looked, passed, AreNews, CanPass}
 use Rattle.lane_lock.proofs.Lists.{each_set, inside, one_there, sum_set, sum_at_most}
 
+pub not_busy : (b : Bool) → ¬ (b ≡ true) → b ≡ false
+not_busy true h = absurd (h refl)
+not_busy false h = refl
+
+pub home_if_free : (b : Bool) (P Q : Type 0) → b ≡ false → MatchBool b P Q → Q
+home_if_free true P Q e h = absurd (true≢false e)
+home_if_free false P Q e h = h
+
+pub out_if_busy : (b : Bool) (P Q : Type 0) → b ≡ true → MatchBool b P Q → P
+out_if_busy true P Q e h = h
+out_if_busy false P Q e h = absurd (true≢false (sym e))
+
 module _ {S A : Type 0} where
   -- a line with one more at its end
   abbrev longer_line : Moment S A → ℕ → Moment S A
@@ -100,18 +112,6 @@ module _ {M B S A : Type 0} (t : Meaning M B S A) (o : Opening M) where
   few_wait : (s : State (Option M) V) (r : Rule s) → length r.now.line ≤ 16
   few_wait s r = let a = sum_at_most (λ (u : V). tickets u.stage) (λ (u : V). length u.lanes) s.views (λ j u there. ticket_has_lane r.now j u u.stage (r.each j u there).stage) in
       let b = r.lanes in let c = r.waiting in let d = r.few in omega arith
-
-  not_busy : (b : Bool) → ¬ (b ≡ true) → b ≡ false
-  not_busy true h = absurd (h refl)
-  not_busy false h = refl
-
-  home_if_free : (b : Bool) (P Q : Type 0) → b ≡ false → MatchBool b P Q → Q
-  home_if_free true P Q e h = absurd (true≢false e)
-  home_if_free false P Q e h = h
-
-  out_if_busy : (b : Bool) (P Q : Type 0) → b ≡ true → MatchBool b P Q → P
-  out_if_busy true P Q e h = h
-  out_if_busy false P Q e h = absurd (true≢false (sym e))
 
   -- the ticket that is served is the first of the line, and nobody has the machine in hand
   first_in_line : (s : State (Option M) V) (r : Rule s) (id n p : ℕ) → get_elem? r.now.line p ≡ some id → n ≡ (r.now.served + p) % 2 ^ 64 → words s.words 1 ≡ n → p ≡ 0
