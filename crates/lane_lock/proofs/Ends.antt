@@ -12,25 +12,26 @@ use Rattle.machine_model.proofs.HistoryLaws.{of_lane-append}
 use Rattle.lane_lock.specs.declared.view.Stage.{Stage}
 use Rattle.lane_lock.specs.declared.view.Stage.TheVariants.{Idle, Waits, Turn}
 use Rattle.lane_lock.specs.declared.view.View.{View}
-use Rattle.lane_lock.specs.Rules.{Opening, Moment, has, tickets, Stands, Knows, IsLawful, IsAt, AreTickets, IsHome, Ruled, lanes_from, newcomer}
+use Rattle.lane_lock.specs.Rules.{Opening, Moment, has, tickets, Stands, Knows, IsLawful, IsAt, AreTickets, IsHome, Ruled, opening_of, lanes_from, newcomer}
 use Rattle.lane_lock.specs.Steps.{keeping, given, joined, spent}
 use Rattle.lane_lock.specs.Gathering.{Ended}
 use Rattle.lane_lock.proofs.Lists.{each_set, at_end, inside, one_there, each_append, each_cons, sum_set, sum_nothing, has-append}
-use Rattle.lane_lock.proofs.Steps.{not_busy, home_if_free}
+use Rattle.lane_lock.proofs.Steps.{not_busy, home_if_free, origin_in}
 use Rattle.lane_lock.proofs.Acting.{has_one, one_of}
 
 -- lanes from one on are no others
-from_below : (l n : ℕ) (xs : List ℕ) → has l (lanes_from n xs) ≡ true → l < n + length xs
-from_below l n [] h = absurd (true≢false (sym h))
-from_below l n (x ∷ xs) h = at (n == l) refl h (from_below l (n + 1) xs)
+pub from_below : (l from n : ℕ) → has l (lanes_from from n) ≡ true → (from ≤ l) × (l < from + n)
+from_below l from zero h = absurd (true≢false (sym h))
+from_below l from (suc n) h = at (from == l) refl h (from_below l (from + 1) n)
   where
-    at : (b : Bool) → (n == l) ≡ b → (b || has l (lanes_from (n + 1) xs)) ≡ true → (has l (lanes_from (n + 1) xs) ≡ true → l < n + 1 + length xs) → l < n + length (x ∷ xs)
-    at true is h next = let e : n ≡ l = eqb→eq n l (subst T (sym is) tt) in omega arith
-    at false is h next = let a = next h in omega arith
+    at : (b : Bool) → (from == l) ≡ b → (b || has l (lanes_from (from + 1) n)) ≡ true
+        → (has l (lanes_from (from + 1) n) ≡ true → (from + 1 ≤ l) × (l < from + 1 + n)) → (from ≤ l) × (l < from + suc n)
+    at true is h next = let e : from ≡ l = eqb→eq from l (subst T (sym is) tt) in (omega arith, omega arith)
+    at false is h next = let a = next h in let b = a.0 in let c = a.1 in (omega arith, omega arith)
 
-length-lanes_from : (n : ℕ) (xs : List ℕ) → length (lanes_from n xs) ≡ length xs
-length-lanes_from n [] = refl
-length-lanes_from n (x ∷ xs) = ap suc (length-lanes_from (n + 1) xs)
+length-lanes_from : (from n : ℕ) → length (lanes_from from n) ≡ n
+length-lanes_from from zero = refl
+length-lanes_from from (suc n) = ap suc (length-lanes_from (from + 1) n)
 
 module _ {S A : Type 0} where
   abbrev with_keeper : Moment S A → (ℕ → ℕ) → Moment S A
@@ -69,7 +70,7 @@ module _ {M B S A : Type 0} (t : Meaning M B S A) (o : Opening M) where
   first_knows : Knows t o start 0 (newcomer o)
   first_knows = record {
     told = λ _. (refl, refl);
-    kept = λ l h. (refl, let a = from_below l 0 o.shares h in omega arith);
+    kept = λ l h. (refl, let a = (from_below l 0 (length o.shares) h).1 in omega arith);
     seen = ([], refl);
     met = λ k x there. absurd (some-ne-none x (sym there));
     own = λ l h. refl;
@@ -84,8 +85,8 @@ module _ {M B S A : Type 0} (t : Meaning M B S A) (o : Opening M) where
     now = start;
     words = record { wide = refl; next = refl; serves = refl };
     few = few;
-    lanes = let a = length-lanes_from 0 o.shares in
-        let g : 0 + length (lanes_from 0 o.shares) ≤ length o.shares = omega arith in g;
+    lanes = let a = length-lanes_from 0 (length o.shares) in
+        let g : 0 + length (lanes_from 0 (length o.shares)) ≤ length o.shares = omega arith in g;
     waiting = refl;
     occupied = λ b. absurd (true≢false (sym b));
     home = (
@@ -110,7 +111,7 @@ module _ {M B S A : Type 0} (t : Meaning M B S A) (o : Opening M) where
   handed_else : (keeper : ℕ → ℕ) (lane seat l : ℕ) → lane ≢ l → handed keeper lane seat l ≡ keeper l
   handed_else keeper lane seat l other = ap (λ b. if b then seat else keeper l) (ne_eqb lane l other)
 
-  has_first : (l lane : ℕ) (lanes : List ℕ) → lane ≡ l → has l (lane ∷ lanes) ≡ true
+  pub has_first : (l lane : ℕ) (lanes : List ℕ) → lane ≡ l → has l (lane ∷ lanes) ≡ true
   has_first l lane lanes is = ap (λ (b : Bool). b || has l lanes) (eq-eqb lane l is)
 
   has_later : (l lane : ℕ) (lanes : List ℕ) → has l lanes ≡ true → has l (lane ∷ lanes) ≡ true
@@ -301,3 +302,22 @@ module _ {M B S A : Type 0} (t : Meaning M B S A) (o : Opening M) where
           own = λ l h. k.own l h ∙ ap (of_lane t.lane l) is;
         },
       )
+
+  -- the slot that the table closes with has a machine
+  pub ends_with : (id : ℕ) (v : V) (ws : List ℕ) (xs : List (Option M)) → v.stage ≡ Idle → ((l : ℕ) → l < length o.shares → has l v.lanes ≡ true)
+      → Final (Seen Rule id v) ws xs → (found : Option M) → get_elem? xs 0 ≡ some found → (machine : M) × (found ≡ Some machine) × Ended t o v machine
+  ends_with id v ws xs idle all f found there = let out = out_of id v ws xs idle all f in (out.0, one_there xs 0 found (Some out.0) there out.1, out.2)
+
+  pub ended_in : (id : ℕ) (v : V) (ws : List ℕ) (xs : List (Option M)) → v.stage ≡ Idle → ((l : ℕ) → l < length o.shares → has l v.lanes ≡ true)
+      → Final (Seen Rule id v) ws xs → (found : Option M) → get_elem? xs 0 ≡ some found → (machine : M) → found ≡ Some machine → Ended t o v machine
+  ended_in id v ws xs idle all f found there machine is = let end = ends_with id v ws xs idle all f found there in
+      subst (Ended t o v) (ap (origin_in machine) (sym end.1 ∙ is)) end.2
+
+module _ {M B S A : Type 0} (t : Meaning M B S A) where
+  -- the same opening, told by copies of the machine and the shares
+  pub opens_as : (machine copy : M) (shares copies : List ℕ) (slots : List (Option M)) → copy ≡ machine → copies ≡ shares → slots ≡ Some machine ∷ []
+      → t.history machine ≡ [] → sum shares ≤ t.spare machine → length shares ≤ 16
+      → Ruled t (opening_of copy copies) (opening (0 ∷ 0 ∷ []) slots (newcomer (opening_of copy copies)))
+  opens_as machine copy shares copies slots same same_shares home fresh enough few =
+      subst (λ (z : M × List ℕ × List (Option M)). Ruled t (opening_of z.0 z.1) (opening (0 ∷ 0 ∷ []) z.2 (newcomer (opening_of z.0 z.1))))
+      (λ i. (sym same i, sym same_shares i, sym home i)) (opens t (opening_of machine shares) fresh enough few)

@@ -1,6 +1,6 @@
 -- The rule of the lock: what its words, its slot and the views of its seats say of one history.
 -- Word 0 is the ticket that is drawn next and word 1 the one that is served, both counted modulo 2^64. Slot 0 has the machine.
-use Rattle.std.specs.Prelude.{◌≡◌, ℕ, ◌+◌, ◌*◌, ◌%◌, ◌^◌, ◌<◌, ◌≤◌, Bool, true, false, ◌||◌, ◌==◌, List, [], ◌∷◌, length, sum, sum_by, slice_index, MatchBool, Option, Some, None}
+use Rattle.std.specs.Prelude.{◌≡◌, ℕ, zero, suc, ◌+◌, ◌%◌, ◌^◌, ◌<◌, ◌≤◌, Bool, true, false, ◌||◌, ◌==◌, List, [], ◌∷◌, length, sum, sum_by, slice_index, MatchBool, Option, Some, None}
 use mathlib.Core.Option.{some, none}
 use lib.ListN.{get_elem?}
 use Rattle.atomic_table.specs.Table.{State}
@@ -100,10 +100,10 @@ pub record Ruled {M B S A : Type 0} (t : Meaning M B S A) (o : Opening M) (s : S
   pub each : (j : ℕ) (v : View M S A) → get_elem? s.views j ≡ some v → Knows t o now j v
 
 -- lanes from one on, so many
-abbrev pub lanes_from : ℕ → List ℕ → List ℕ
-lanes_from l [] = []
-lanes_from l (x ∷ xs) = l ∷ lanes_from (l + 1) xs
+abbrev pub lanes_from : ℕ → ℕ → List ℕ
+lanes_from l zero = []
+lanes_from l (suc n) = l ∷ lanes_from (l + 1) n
 
 -- the first seat keeps all lanes and has seen nothing
 abbrev pub newcomer : {M S A : Type 0} → Opening M → View M S A
-newcomer o = record { lanes = lanes_from 0 o.shares; shares = o.shares; stage = Idle; seen = []; met = []; own = []; origin = Some o.machine }
+newcomer o = record { lanes = lanes_from 0 (length o.shares); shares = o.shares; stage = Idle; seen = []; met = []; own = []; origin = Some o.machine }

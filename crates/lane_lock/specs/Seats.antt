@@ -2,6 +2,8 @@
 use Rattle.std.specs.Prelude.{◌≡◌, ℕ, List, [], ◌∷◌, ◌++◌, Option, Some}
 use Rattle.atomic_table.specs.Seated.{TableId}
 use Rattle.machine_model.specs.Histories.{History, Meaning, of_lane, kept_of, IsLegal, BeginsWith}
+use Rattle.atomic_table.specs.declared.shared.Shared.{Shared}
+use Rattle.lane_lock.specs.declared.view.Start.{Start}
 use Rattle.lane_lock.specs.declared.view.Stage.TheVariants.{Idle}
 use Rattle.lane_lock.specs.Steps.{Sitter}
 
@@ -10,6 +12,9 @@ pub record LockView (M : Type 0) : Type 0 where
   pub lock : TableId
   pub first : M
   pub shares : List ℕ
+
+abbrev pub lock_view : {M P V : Type 0} → Shared (Option M) V (Start M) P → LockView M
+lock_view shared = record { lock = shared.table_id; first = shared.key.machine.value; shares = shared.key.shares.value.items }
 
 -- a seat: which lock it is of, its lane, what it has seen of the history, and its own events in it
 pub record SeatView (M S A : Type 0) : Type 0 where
@@ -50,3 +55,7 @@ pub record Answers {M B S A : Type 0} (t : Meaning M B S A) (b : B) (v w : SeatV
   pub seen : w.seen ≡ before ++ kept_of t.keeps step answer
   -- which is then one more of its own
   pub own : w.own ≡ v.own ++ kept_of t.keeps step answer
+
+-- a seat as `new` makes it: it has seen nothing and has no event
+abbrev pub first_seat : {M S A : Type 0} → LockView M → ℕ → SeatView M S A
+first_seat lock lane = record { lock = lock.lock; first = Some lock.first; lane = lane; shares = lock.shares; seen = []; own = [] }

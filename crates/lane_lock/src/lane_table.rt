@@ -1,15 +1,18 @@
 //! The steps of the lock on its words and its slot, each with what it tells the seat that takes it.
-ghost use Rattle.std.specs.Prelude.{◌≡◌, ◌<◌, [], length, slice_index, MatchBool, Some};
+ghost use Rattle.std.specs.Prelude.{◌≡◌, ℕ, ◌<◌, ◌≤◌, true, [], length, sum, slice_index, MatchBool, Some, IfOk};
 ghost use Rattle.machine_model.specs.Histories.{meaning};
 ghost use Rattle.lane_lock.specs.declared.view.Stage.TheVariants.{Idle, Waits};
+ghost use Rattle.lane_lock.specs.Rules.{has, opening_of, newcomer};
+ghost use Rattle.lane_lock.specs.Gathering.{CanSplit, Ended};
 ghost use Rattle.lane_lock.specs.Seats.{seat_view, IsAtRest, Answers};
-ghost use Rattle.lane_lock.specs.Steps.{drew, HasTurn, passed, holding, CanPass, HasApplied, IsSame, IsTold};
+ghost use Rattle.lane_lock.specs.Steps.{drew, keeping, given, joined, HasTurn, passed, holding, CanPass, HasApplied, IsSame, IsTold};
 
-use crate::turns::{Draw, Look, Pass, Turns};
+use crate::turns::{Draw, GiveLane, Look, Pass, TakeIn, Turns};
 use crate::view::{Start, View};
 use atomic_table::{Seat, Table};
 use machine_model::Machine;
-use std::alloc::Global;
+use std::alloc::{AllocError, Global};
+use std::snapshot::Snapshot;
 use std::sync::Wait;
 use std::thread;
 
@@ -115,5 +118,64 @@ impl<M: Machine> LaneTable<M> {
         let answer = self.apply_in_hand(place, step);
         self.pass(place);
         answer
+    }
+
+    /// The words and the slot, with a seat that keeps all lanes.
+    pub fn open(alloc: Global, machine: M, shares: &[u64]) -> Result<(LaneTable<M>, Place<M>), AllocError>
+        requires fresh { (M.history machine ≡ []) × (sum shares.now ≤ M.spare machine) }
+        requires few { length shares.now ≤ 16 }
+        ensures key { IfOk result (λ r. (r.0.table.shared.key.machine.value ≡ machine) × (r.0.table.shared.key.shares.value.items ≡ shares.now)) }
+        ensures place { IfOk result (λ r. (r.1.table_id ≡ r.0.table.shared.table_id) × (r.1.me ≡ (newcomer (opening_of machine shares.now), []))) }
+    {
+        let mut kept = Vec::new(alloc);
+        kept.extend_from_slice(shares)?;
+        let start = Start {
+            machine: Snapshot::of(&machine),
+            shares: Snapshot::of(&kept),
+        };
+        let mut slots = Vec::new(alloc);
+        slots.push(Some(machine))?;
+        let Ok((table, place)) = Table::new(alloc, &[0, 0], slots, &start) else {
+            return Err(AllocError);
+        };
+        Ok((LaneTable { table }, place))
+    }
+
+    /// A seat that keeps the first lane, which the other gives away.
+    pub fn split(&self, place: &mut Place<M>) -> Place<M>
+        requires ours { place.old.table_id ≡ self.now.table.shared.table_id }
+        requires can { CanSplit place.old.me.0 }
+        ensures same { IsSame place.old place.new }
+        ensures kept { place.new.me ≡ (keeping place.old.me.0, place.old.me.1) }
+        ensures given { (result.table_id ≡ place.old.table_id) × (result.me ≡ (given place.old.me.0, [])) }
+    {
+        self.table.shared.split_seat::<GiveLane>(place)
+    }
+
+    /// Takes in another seat, with its lanes and events.
+    pub fn join(&self, place: &mut Place<M>, other: Place<M>)
+        requires ours { (place.old.table_id ≡ self.now.table.shared.table_id) × (other.table_id ≡ self.now.table.shared.table_id) }
+        requires idle { (place.old.me.0.stage ≡ Idle) × (other.me.0.stage ≡ Idle) × (other.me.1 ≡ []) }
+        requires lanes { 0 < length place.old.me.0.lanes }
+        ensures same { IsSame place.old place.new }
+        ensures joined { place.new.me ≡ (joined place.old.me.0 other.me.0, place.old.me.1) }
+    {
+        self.table.shared.join_seat::<TakeIn>(place, other);
+    }
+
+    /// The machine, once one seat keeps all lanes.
+    pub fn finish(self, place: Place<M>) -> M
+        requires ours { place.table_id ≡ self.table.shared.table_id }
+        requires idle { place.me.0.stage ≡ Idle }
+        requires all { (l : ℕ) → l < length self.table.shared.key.shares.value.items → has l place.me.0.lanes ≡ true }
+        ensures ended { Ended (meaning M.base M.history M.spare M.lane_of M.fits M.reply M.keeps) (opening_of self.table.shared.key.machine.value self.table.shared.key.shares.value.items) place.me.0 result }
+    {
+        let LaneTable { table } = self;
+        let mut closed = table.close_with(place);
+        let Some(machine) = closed.take(MACHINE) else {
+            unreachable!()
+        };
+        closed.free();
+        machine
     }
 }

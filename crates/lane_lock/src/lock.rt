@@ -1,10 +1,13 @@
-ghost use Rattle.std.specs.Prelude.{◌≡◌, ◌<◌, length, slice_index};
-ghost use Rattle.machine_model.specs.Histories.{meaning};
-ghost use Rattle.lane_lock.specs.Seats.{IsSeatOf, Answers};
+ghost use Rattle.std.specs.Prelude.{◌≡◌, ℕ, ◌<◌, ◌≤◌, [], length, map, sum, slice_index, slice_get, IfOk, Some};
+ghost use Rattle.machine_model.specs.Histories.{meaning, AreBelow, IsLegal};
+ghost use Rattle.lane_lock.specs.Rules.{lanes_from, newcomer};
+ghost use Rattle.lane_lock.specs.Gathering.{opening_in, InOrder, Gathered, Closes};
+ghost use Rattle.lane_lock.specs.Seats.{SeatView, lock_view, first_seat, IsSeatOf, Answers};
 
-use crate::lane_table::LaneTable;
+use crate::lane_table::{LaneTable, Place};
 use crate::seat::Seat;
 use machine_model::Machine;
+use std::alloc::{AllocError, Global};
 use std::marker::Model;
 use std::sync::Wait;
 
@@ -16,14 +19,28 @@ pub struct LaneLock<M: Machine> {
 }
 
 impl<M: Machine> Model for LaneLock<M> {
-    ghost use Rattle.lane_lock.specs.Seats.{LockView};
+    ghost use Rattle.lane_lock.specs.Seats.{LockView, lock_view};
 
     ghost Value = { LockView M };
 
-    ghost view = { λ s. record { lock = s.lanes.table.shared.table_id; first = s.lanes.table.shared.key.machine.value; shares = s.lanes.table.shared.key.shares.value.items } };
+    ghost view = { λ s. lock_view s.lanes.table.shared };
 }
 
 impl<M: Machine> LaneLock<M> {
+    /// A lock round a machine with an empty history, and a seat for each lane, in order: lane i may keep
+    /// `shares[i]` events. There are 1 to 16 lanes, and the machine has room for all shares together.
+    /// The error is want of memory, and drops the machine.
+    pub fn new(alloc: Global, machine: M, shares: &[u64]) -> Result<(LaneLock<M>, Vec<Seat<M>>), AllocError>
+        requires fresh { (M.history machine ≡ []) × (sum shares.now ≤ M.spare machine) }
+        requires few { (0 < length shares.now) × (length shares.now ≤ 16) }
+        ensures lock { IfOk result (λ r. (r.0.first ≡ machine) × (r.0.shares ≡ shares.now)) }
+        ensures seats { IfOk result (λ r. r.1.items ≡ map (first_seat r.0) (lanes_from 0 (length shares.now))) }
+    {
+        let (lanes, place) = LaneTable::open(alloc, machine, shares)?;
+        let seats = seat_lanes(alloc, &lanes, place, shares.len() as u32)?;
+        Ok((LaneLock { lanes }, seats))
+    }
+
     /// Waits for the turn, applies the step to the machine, and passes the turn on. Takes no memory and
     /// can't be refused. The step is of the seat's lane, which has to have kept fewer events than its share.
     pub fn act<R: Wait>(&self, rt: &R, seat: &mut Seat<M>, step: M::Step) -> M::Answer
@@ -37,4 +54,58 @@ impl<M: Machine> LaneLock<M> {
     {
         self.lanes.act(rt, &mut seat.place, step)
     }
+
+    /// The machine, once all seats are back, in the order of their lanes. Takes no memory and can't be refused.
+    pub fn close(self, seats: Vec<Seat<M>>) -> M
+        requires ours { (k : ℕ) (s : SeatView M M.Step M.Answer) → slice_get seats.items k ≡ Some s → IsSeatOf self s × (s.lane ≡ k) }
+        requires all { (length seats.items ≡ length self.shares) × (0 < length self.shares) }
+        ensures base { M.base result ≡ M.base self.first }
+        ensures legal { IsLegal M.fits M.reply (M.base self.first) [] (M.history result) }
+        ensures lanes { AreBelow M.lane_of (length self.shares) (M.history result) }
+        ensures seats { (k : ℕ) (s : SeatView M M.Step M.Answer) → slice_get seats.items k ≡ Some s → Closes (meaning M.base M.history M.spare M.lane_of M.fits M.reply M.keeps) result k s }
+    {
+        let LaneLock { lanes } = self;
+        let place = gather(&lanes, seats);
+        lanes.finish(place)
+    }
+}
+
+// A seat for each lane, cut off from one that keeps all.
+fn seat_lanes<M: Machine>(
+    alloc: Global,
+    lanes: &LaneTable<M>,
+    mut place: Place<M>,
+    count: u32,
+) -> Result<Vec<Seat<M>>, AllocError>
+    requires ours { place.table_id ≡ lanes.now.table.shared.table_id }
+    requires first { place.me ≡ (newcomer (opening_in (lock_view lanes.now.table.shared)), []) }
+    requires some { (0 < count) × (count ≡ length lanes.now.table.shared.key.shares.value.items) }
+    ensures seats { IfOk result (λ v. v.items ≡ map (first_seat (lock_view lanes.now.table.shared)) (lanes_from 0 count)) }
+{
+    let mut seats = Vec::new(alloc);
+    let mut lane: u32 = 0;
+    while lane + 1 < count {
+        let own = lanes.split(&mut place);
+        seats.push(Seat::of_place(own, lane))?;
+        lane += 1;
+    }
+    seats.push(Seat::of_place(place, lane))?;
+    Ok(seats)
+}
+
+// One seat that has taken in all, from the last lane to the first.
+fn gather<M: Machine>(lanes: &LaneTable<M>, mut seats: Vec<Seat<M>>) -> Place<M>
+    requires ours { InOrder lanes.now.table.shared.table_id seats.items }
+    requires some { 0 < length seats.items }
+    ensures ours { result.table_id ≡ lanes.now.table.shared.table_id }
+    ensures all { Gathered (meaning M.base M.history M.spare M.lane_of M.fits M.reply M.keeps) seats.items 0 result.me }
+{
+    let Some(last) = seats.pop() else {
+        unreachable!()
+    };
+    let mut place = last.into_place();
+    while let Some(seat) = seats.pop() {
+        lanes.join(&mut place, seat.into_place());
+    }
+    place
 }
