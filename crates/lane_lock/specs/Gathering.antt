@@ -22,12 +22,11 @@ pub record CanSplit {M S A : Type 0} (v : View M S A) : Type 0 where
 abbrev pub opening_in : {M : Type 0} → LockView M → Opening M
 opening_in lock = record { machine = lock.first; shares = lock.shares }
 
--- the seats of the lanes below this one are made, and a seat keeps the others
-pub record AreSeated {M S A : Type 0} (lock : LockView M) (lane : ℕ) (seats : List (SeatView M S A)) (m : Sitter M S A) : Type 0 where
+-- the seats of the lanes below this one are cut off, and a seat keeps the others
+pub record IsLeft {M S A : Type 0} (lock : LockView M) (lane : ℕ) (m : Sitter M S A) : Type 0 where
   pub more : ℕ
   pub count : lane + suc more ≡ length lock.shares
   pub left : m ≡ (record (newcomer (opening_in lock)) { lanes = lanes_from lane (suc more) }, [])
-  pub made : seats ++ map (first_seat lock) (lanes_from lane (suc more)) ≡ map (first_seat lock) (lanes_from 0 (length lock.shares))
 
 -- the machine at the end, to a seat that keeps all lanes
 pub record Ended {M B S A : Type 0} (t : Meaning M B S A) (o : Opening M) (v : View M S A) (machine : M) : Type 0 where

@@ -1,7 +1,7 @@
-ghost use Rattle.std.specs.Prelude.{◌≡◌, ℕ, ◌<◌, ◌≤◌, [], length, map, sum, slice_index, slice_get, IfOk, Some};
+ghost use Rattle.std.specs.Prelude.{◌≡◌, ℕ, ◌+◌, ◌<◌, ◌≤◌, [], length, map, sum, slice_index, slice_get, IfOk, Some};
 ghost use Rattle.machine_model.specs.Histories.{meaning, AreBelow, IsLegal};
-ghost use Rattle.lane_lock.specs.Rules.{lanes_from, newcomer};
-ghost use Rattle.lane_lock.specs.Gathering.{opening_in, InOrder, Gathered, Closes};
+ghost use Rattle.lane_lock.specs.Rules.{lanes_from};
+ghost use Rattle.lane_lock.specs.Gathering.{IsLeft, InOrder, Gathered, Closes};
 ghost use Rattle.lane_lock.specs.Seats.{SeatView, lock_view, first_seat, IsSeatOf, Answers};
 
 use crate::lane_table::{LaneTable, Place};
@@ -70,6 +70,28 @@ impl<M: Machine> LaneLock<M> {
     }
 }
 
+// The seat of the first lane that is left.
+fn cut_off<M: Machine>(lanes: &LaneTable<M>, place: &mut Place<M>, lane: u32) -> Seat<M>
+    requires ours { place.old.table_id ≡ lanes.now.table.shared.table_id }
+    requires left { IsLeft (lock_view lanes.now.table.shared) lane place.old.me }
+    requires more { lane + 1 < length lanes.now.table.shared.key.shares.value.items }
+    ensures ours { place.new.table_id ≡ lanes.now.table.shared.table_id }
+    ensures left { IsLeft (lock_view lanes.now.table.shared) (lane + 1) place.new.me }
+    ensures seat { result ≡ first_seat (lock_view lanes.now.table.shared) lane }
+{
+    Seat::of_place(lanes.split(place), lane)
+}
+
+// The seat of the last lane.
+fn last_seat<M: Machine>(_lanes: &LaneTable<M>, place: Place<M>, lane: u32) -> Seat<M>
+    requires ours { place.table_id ≡ _lanes.now.table.shared.table_id }
+    requires left { IsLeft (lock_view _lanes.now.table.shared) lane place.me }
+    requires last { length _lanes.now.table.shared.key.shares.value.items ≤ lane + 1 }
+    ensures seat { result ≡ first_seat (lock_view _lanes.now.table.shared) lane }
+{
+    Seat::of_place(place, lane)
+}
+
 // A seat for each lane, cut off from one that keeps all.
 fn seat_lanes<M: Machine>(
     alloc: Global,
@@ -78,18 +100,17 @@ fn seat_lanes<M: Machine>(
     count: u32,
 ) -> Result<Vec<Seat<M>>, AllocError>
     requires ours { place.table_id ≡ lanes.now.table.shared.table_id }
-    requires first { place.me ≡ (newcomer (opening_in (lock_view lanes.now.table.shared)), []) }
-    requires some { (0 < count) × (count ≡ length lanes.now.table.shared.key.shares.value.items) }
+    requires left { IsLeft (lock_view lanes.now.table.shared) 0 place.me }
+    requires count { count ≡ length lanes.now.table.shared.key.shares.value.items }
     ensures seats { IfOk result (λ v. v.items ≡ map (first_seat (lock_view lanes.now.table.shared)) (lanes_from 0 count)) }
 {
     let mut seats = Vec::new(alloc);
     let mut lane: u32 = 0;
-    while lane + 1 < count {
-        let own = lanes.split(&mut place);
-        seats.push(Seat::of_place(own, lane))?;
+    'cut: while lane < count - 1 {
+        seats.push(cut_off(lanes, &mut place, lane))?;
         lane += 1;
     }
-    seats.push(Seat::of_place(place, lane))?;
+    seats.push(last_seat(lanes, place, lane))?;
     Ok(seats)
 }
 
@@ -104,7 +125,7 @@ fn gather<M: Machine>(lanes: &LaneTable<M>, mut seats: Vec<Seat<M>>) -> Place<M>
         unreachable!()
     };
     let mut place = last.into_place();
-    while let Some(seat) = seats.pop() {
+    'take_in: while let Some(seat) = seats.pop() {
         lanes.join(&mut place, seat.into_place());
     }
     place

@@ -1,0 +1,90 @@
+-- A seat for each lane, cut off one by one from the seat that keeps all.
+use Rattle.std.proofs.Common.{◌≡◌, ℕ, zero, suc, ◌+◌, ◌<◌, ◌≤◌, true, false, List, [], ◌∷◌, ◌++◌, length, map, take, drop, Some, refl, sym, ap, ◌∙◌, subst, append_assoc, arith}
+use mathlib.Core.List.{map-append}
+use Rattle.atomic_table.specs.Seated.{TableId}
+use Rattle.machine_model.specs.Histories.{Meaning, of_lane}
+use Rattle.lane_lock.specs.declared.view.Stage.TheVariants.{Idle}
+use Rattle.lane_lock.specs.declared.view.View.{View}
+use Rattle.lane_lock.specs.Rules.{has, lanes_from, newcomer}
+use Rattle.lane_lock.specs.Steps.{Sitter, keeping, given}
+use Rattle.lane_lock.specs.Seats.{LockView, SeatView, seat_view, first_seat, IsAtRest}
+use Rattle.lane_lock.specs.Gathering.{CanSplit, opening_in, IsLeft}
+use Rattle.lane_lock.proofs.Steps.{not_busy}
+use Rattle.lane_lock.proofs.Ends.{from_below}
+
+one_less : (all lane more : ℕ) → lane + suc more ≡ all → lane + 1 < all → (n : ℕ) × (more ≡ suc n)
+one_less all lane zero e less = absurd (omega arith)
+one_less all lane (suc n) e less = (n, refl)
+
+none_more : (all lane more : ℕ) → lane + suc more ≡ all → all ≤ lane + 1 → more ≡ 0
+none_more all lane zero e last = refl
+none_more all lane (suc n) e last = absurd (omega arith)
+
+module _ {M S A : Type 0} (lock : LockView M) where
+  -- the seat that keeps the lanes from one on
+  abbrev keeps_from : ℕ → ℕ → Sitter M S A
+  keeps_from lane n = (record (newcomer (opening_in lock)) { lanes = lanes_from lane n }, [])
+
+  left_from : (n : ℕ) → n ≡ length lock.shares → 0 < n → (m : Sitter M S A) → m ≡ (newcomer (opening_in lock), []) → IsLeft lock 0 m
+  left_from zero is some_lane m all = absurd (omega arith)
+  left_from (suc n) is some_lane m all = record {
+    more = n;
+    count = let g : 0 + suc n ≡ length lock.shares = omega arith in g;
+    left = all ∙ ap (λ (k : ℕ). keeps_from 0 k) (sym is);
+  }
+
+  -- at first all are left
+  pub left_at_first : 0 < length lock.shares → (m : Sitter M S A) → m ≡ (newcomer (opening_in lock), []) → IsLeft lock 0 m
+  left_at_first some_lane m all = left_from (length lock.shares) refl some_lane m all
+
+  -- while lanes stand behind the first, it can be given away
+  pub can_cut : (lane : ℕ) (m : Sitter M S A) → IsLeft lock lane m → lane + 1 < length lock.shares → CanSplit m.0
+  can_cut lane m h less = subst (λ (z : Sitter M S A). CanSplit z.0) (sym h.left) record {
+    lane = lane;
+    rest = lanes_from (lane + 1) h.more;
+    lanes = refl;
+    once = not_busy (has lane (lanes_from (lane + 1) h.more)) (λ is. let a = (from_below lane (lane + 1) h.more is).0 in absurd (omega arith));
+    none_own = refl;
+    idle = refl;
+  }
+
+  -- then those behind it are left
+  pub left_behind : (lane : ℕ) (m m' : Sitter M S A) → IsLeft lock lane m → lane + 1 < length lock.shares → m' ≡ (keeping m.0, m.1) → IsLeft lock (lane + 1) m'
+  left_behind lane m m' h less after = let fewer = one_less (length lock.shares) lane h.more h.count less in let e = h.count in let is = fewer.1 in record {
+    more = fewer.0;
+    count = omega arith;
+    left = after ∙ (ap (λ (z : Sitter M S A). (keeping z.0, z.1)) h.left ∙ ap (λ (k : ℕ). keeps_from (lane + 1) k) is);
+  }
+
+  -- and it has a seat of its own
+  pub seat_cut : (lane : ℕ) (m own : Sitter M S A) (id : TableId) → IsLeft lock lane m → own ≡ (given m.0, []) → id ≡ lock.lock → seat_view id lane own ≡ first_seat lock lane
+  seat_cut lane m own id h is same = ap (λ (z : Sitter M S A). seat_view id lane z) (is ∙ ap (λ (z : Sitter M S A). (given z.0, [])) h.left)
+      ∙ ap (λ (z : TableId). seat_view z lane (keeps_from lane 1)) same
+
+  -- the last lane's seat is the one that is left
+  last_is : (lane : ℕ) (m : Sitter M S A) → IsLeft lock lane m → length lock.shares ≤ lane + 1 → m ≡ keeps_from lane 1
+  last_is lane m h last = h.left ∙ ap (λ (k : ℕ). keeps_from lane (suc k)) (none_more (length lock.shares) lane h.more h.count last)
+
+  pub seat_last : (lane : ℕ) (m : Sitter M S A) (id : TableId) → IsLeft lock lane m → length lock.shares ≤ lane + 1 → id ≡ lock.lock → seat_view id lane m ≡ first_seat lock lane
+  seat_last lane m id h last same = ap (λ (z : Sitter M S A). seat_view id lane z) (last_is lane m h last) ∙ ap (λ (z : TableId). seat_view z lane (keeps_from lane 1)) same
+
+lanes-push : (from n : ℕ) → lanes_from from n ++ (from + n) ∷ [] ≡ lanes_from from (suc n)
+lanes-push from zero = let e : from + 0 ≡ from = omega arith in ap (λ (k : ℕ). k ∷ []) e
+lanes-push from (suc n) = let e : from + suc n ≡ from + 1 + n = omega arith in
+    ap (λ (k : ℕ). from ∷ (lanes_from (from + 1) n ++ k ∷ [])) e ∙ ap (λ (ls : List ℕ). from ∷ ls) (lanes-push (from + 1) n)
+
+-- one seat more
+pub seats-push : {X : Type 0} (f : ℕ → X) (seats : List X) (x : X) (n more : ℕ) → seats ≡ map f (lanes_from 0 n) → x ≡ f n → more ≡ n + 1
+    → seats ++ x ∷ [] ≡ map f (lanes_from 0 more)
+seats-push f seats x n more so_far is next = ap (λ y. seats ++ y ∷ []) is ∙ (ap (λ xs. xs ++ f n ∷ []) so_far ∙ (sym (map-append f (lanes_from 0 n) (n ∷ []))
+    ∙ ((let e : n ≡ 0 + n = omega arith in ap (λ (k : ℕ). map f (lanes_from 0 n ++ k ∷ [])) e)
+    ∙ (ap (map f) (lanes-push 0 n) ∙ ap (λ (k : ℕ). map f (lanes_from 0 k)) (let e : suc n ≡ more = omega arith in e)))))
+
+module _ {M B S A : Type 0} (t : Meaning M B S A) (lock : LockView M) where
+  -- each of them is at rest
+  pub given_rests : (lane : ℕ) (m own : Sitter M S A) → IsLeft lock lane m → own ≡ (given m.0, []) → IsAtRest t lane own
+  given_rests lane m own h is = subst (IsAtRest t lane) (sym (is ∙ ap (λ (z : Sitter M S A). (given z.0, [])) h.left))
+      record { lanes = refl; stage = refl; hand = refl; met = refl; own = refl }
+
+  pub last_rests : (lane : ℕ) (m : Sitter M S A) → IsLeft lock lane m → length lock.shares ≤ lane + 1 → IsAtRest t lane m
+  last_rests lane m h last = subst (IsAtRest t lane) (sym (last_is lock lane m h last)) record { lanes = refl; stage = refl; hand = refl; met = refl; own = refl }
