@@ -1,15 +1,14 @@
 -- A turn with one step: what it needs at each of its steps, and what it tells at its end.
-use Rattle.std.proofs.Common.{◌≡◌, ℕ, zero, suc, ◌+◌, ◌<◌, ◌≤◌, ◌≢◌, Bool, true, false, ◌==◌, ◌||◌, if◌then◌else◌, List, [], ◌∷◌, ◌++◌, length, drop, sum, slice_index, Option, Some, None, refl, sym, ap, ◌∙◌, subst, true≢false, eq-eqb, ne_eqb, eqb→eq, length-append, arith}
+use Rattle.std.proofs.Common.{◌≡◌, ℕ, zero, suc, ◌+◌, ◌<◌, ◌≤◌, ◌≢◌, Bool, true, false, ◌||◌, if◌then◌else◌, List, [], ◌∷◌, ◌++◌, length, drop, sum, slice_index, Some, refl, sym, ap, ◌∙◌, subst, true≢false, eq-eqb, ne_eqb, arith}
 use mathlib.Core.Logic.{dite}
 use native.Mathlib.Decide.{ℕ_discrete}
 use Rattle.atomic_table.specs.Seated.{TableId}
 use Rattle.machine_model.specs.declared.machine.Event.{Event}
-use Rattle.machine_model.specs.Histories.{History, Meaning, of_lane, kept_of, AreBelow, IsLegal, BeginsWith}
+use Rattle.machine_model.specs.Histories.{History, Meaning, of_lane, kept_of, AreBelow, IsLegal}
 use Rattle.machine_model.proofs.HistoryLaws.{drop_front, of_lane-append}
 use Rattle.lane_lock.specs.declared.view.Stage.TheVariants.{Idle, Turn}
-use Rattle.lane_lock.specs.declared.view.View.{View}
 use Rattle.lane_lock.specs.Rules.{has}
-use Rattle.lane_lock.specs.Steps.{Sitter, holding, IsInHand, HasTurn, HasApplied, Applied, passed, AreNews, CanPass}
+use Rattle.lane_lock.specs.Steps.{Sitter, holding, IsInHand, HasTurn, HasApplied, Applied, passed, CanPass}
 use Rattle.lane_lock.specs.Seats.{seat_view, IsAtRest, Answers}
 use Rattle.lane_lock.proofs.Steps.{machine_in, origin_in}
 

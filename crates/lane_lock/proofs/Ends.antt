@@ -1,9 +1,7 @@
 -- The lock at its two ends: it opens under its rule, seats are cut off and taken in again, and what it closes with.
-use Rattle.std.proofs.Common.{◌≡◌, ℕ, zero, suc, ◌+◌, ◌%◌, ◌^◌, ◌<◌, ◌≤◌, ◌≢◌, Bool, true, false, ◌||◌, ◌==◌, if◌then◌else◌, List, [], ◌∷◌, ◌++◌, length, take, drop, set, map, sum, sum_by, slice_index, MatchBool, Option, Some, None, refl, sym, ap, ◌∙◌, subst, ⊎_elim, true≢false, T, eqb→eq, length-append, length-set, eq-eqb, ne_eqb, append-nil, arith}
+use Rattle.std.proofs.Common.{◌≡◌, ℕ, zero, suc, ◌+◌, ◌<◌, ◌≤◌, ◌≢◌, Bool, true, false, ◌||◌, ◌==◌, if◌then◌else◌, List, [], ◌∷◌, ◌++◌, length, take, drop, set, sum, sum_by, Option, Some, refl, sym, ap, ◌∙◌, subst, ⊎_elim, true≢false, T, eqb→eq, length-append, length-set, eq-eqb, ne_eqb, append-nil, arith}
 use Rattle.std.proofs.lemmas.List.Sums.{sum_by_push}
-use mathlib.Core.Logic.{dite}
-use mathlib.Core.Option.{some, none, some-injective, some-ne-none}
-use native.Mathlib.Decide.{ℕ_discrete}
+use mathlib.Core.Option.{some, some-ne-none}
 use lib.ListN.{get_elem?}
 use Rattle.atomic_table.specs.Table.{State, Splits, Joins, opening, Final, Seen}
 use Rattle.atomic_table.proofs.Lists.{set_else}
@@ -12,12 +10,12 @@ use Rattle.machine_model.proofs.HistoryLaws.{of_lane-append}
 use Rattle.lane_lock.specs.declared.view.Stage.{Stage}
 use Rattle.lane_lock.specs.declared.view.Stage.TheVariants.{Idle, Waits, Turn}
 use Rattle.lane_lock.specs.declared.view.View.{View}
-use Rattle.lane_lock.specs.Rules.{Opening, Moment, has, tickets, Stands, Knows, IsLawful, IsAt, AreTickets, IsHome, Ruled, opening_of, lanes_from, newcomer}
+use Rattle.lane_lock.specs.Rules.{Opening, Moment, has, tickets, Stands, Knows, Ruled, opening_of, lanes_from, newcomer}
 use Rattle.lane_lock.specs.Steps.{keeping, given, joined, spent}
 use Rattle.lane_lock.specs.Gathering.{Ended}
-use Rattle.lane_lock.proofs.Lists.{each_set, at_end, inside, one_there, each_append, each_cons, sum_set, sum_nothing, has-append}
+use Rattle.lane_lock.proofs.Lists.{each_set, at_end, one_there, each_append, each_cons, sum_set, sum_nothing, has-append}
 use Rattle.lane_lock.proofs.Steps.{not_busy, home_if_free, origin_in}
-use Rattle.lane_lock.proofs.Acting.{has_one, one_of}
+use Rattle.lane_lock.proofs.Acting.{one_of}
 
 -- lanes from one on are no others
 pub from_below : (l from n : ℕ) → has l (lanes_from from n) ≡ true → (from ≤ l) × (l < from + n)
@@ -163,7 +161,7 @@ module _ {M B S A : Type 0} (t : Meaning M B S A) (o : Opening M) where
       let now : Moment S A = r.now in let k = r.each id v at in let seat : ℕ = length s.views in
       let after : Moment S A = with_keeper now (handed now.keeper lane seat) in let views : List V = set s.views id (keeping v) in
       let gave : length (drop 1 v.lanes) + length (take 1 v.lanes) ≡ length v.lanes =
-              subst (λ (z : List ℕ). length (drop 1 z) + length (take 1 z) ≡ length z) (sym lanes) (let g : length rest + 1 ≡ suc (length rest) = omega arith in g) in
+      subst (λ (z : List ℕ). length (drop 1 z) + length (take 1 z) ≡ length z) (sym lanes) (let g : length rest + 1 ≡ suc (length rest) = omega arith in g) in
       let long = length-set s.views id (keeping v) in let keeps_lane = (k.kept lane (ap (has lane) lanes ∙ has_first lane lane rest refl)).0 in record {
         now = after;
         words = r.words;
@@ -179,10 +177,10 @@ module _ {M B S A : Type 0} (t : Meaning M B S A) (o : Opening M) where
         lawful = r.lawful;
         each = λ j u there. ⊎_elim
             (λ (h : get_elem? views j ≡ some u). each_set (Knows t o after) s.views id (keeping v) (knows_keeping now id seat v lane rest lanes once nothing idle k)
-                (λ i x other at_i. let x_knows = r.each i x at_i in knows_kept now (handed now.keeper lane seat) i x x_knows
-                (λ l h. handed_else now.keeper lane seat l (λ is. other (sym (x_knows.kept l h).0 ∙ (ap now.keeper (sym is) ∙ keeps_lane))))) j u h)
+            (λ i x other at_i. let x_knows = r.each i x at_i in knows_kept now (handed now.keeper lane seat) i x x_knows
+            (λ l h. handed_else now.keeper lane seat l (λ is. other (sym (x_knows.kept l h).0 ∙ (ap now.keeper (sym is) ∙ keeps_lane))))) j u h)
             (λ (h : (j ≡ length views) × (given v ≡ u)). subst (λ (z : ℕ × V). Knows t o after z.0 z.1) (λ i. (sym (h.0 ∙ long) i, h.1 i))
-                (knows_given now id seat v lane rest lanes nothing k))
+            (knows_given now id seat v lane rest lanes nothing k))
             (at_end views (given v) j u there);
       }
 
@@ -288,7 +286,7 @@ module _ {M B S A : Type 0} (t : Meaning M B S A) (o : Opening M) where
   out_of id v ws xs idle all f =
       let s = f.0 in let r : Rule s = f.1.0 in let at : get_elem? s.views id ≡ some v = f.1.1 in let now : Moment S A = r.now in let k = r.each id v at in
       let quiet = sum_nothing (λ (u : V). tickets u.stage) s.views (λ j u there. no_ticket now id j v u k all (ap tickets idle)
-              (λ is. one_there s.views id u v (subst (λ (z : ℕ). get_elem? s.views z ≡ some u) is there) at) (r.each j u there)) in
+      (λ is. one_there s.views id u v (subst (λ (z : ℕ). get_elem? s.views z ≡ some u) is there) at) (r.each j u there)) in
       let free : now.busy ≡ false = not_busy now.busy (λ b. let a = r.occupied b in let c = r.waiting in absurd (omega arith)) in
       let home = home_if_free now.busy _ _ free r.home in let machine : M = home.0 in let is : now.log ≡ t.history machine = sym home.2.history in (
         machine,

@@ -1,5 +1,5 @@
 -- One seat takes in all, from the last lane to the first, and what the lock then closes with.
-use Rattle.std.proofs.Common.{◌≡◌, ℕ, zero, suc, ◌+◌, ◌<◌, ◌≤◌, ◌≢◌, Bool, true, false, ◌||◌, ◌==◌, if◌then◌else◌, List, [], ◌∷◌, ◌++◌, length, slice_get, Some, None, refl, sym, ap, ◌∙◌, subst, true≢false, length-append, append_assoc, append-nil, eqb→eq, T, ne_eqb, arith}
+use Rattle.std.proofs.Common.{◌≡◌, ℕ, zero, suc, ◌<◌, ◌≤◌, ◌≢◌, Bool, true, false, ◌||◌, ◌==◌, if◌then◌else◌, List, [], ◌∷◌, ◌++◌, length, slice_get, Some, None, refl, sym, ap, ◌∙◌, subst, length-append, append_assoc, append-nil, eqb→eq, T, ne_eqb, arith}
 use mathlib.Core.Logic.{dite}
 use mathlib.Core.Option.{some}
 use native.Mathlib.Decide.{ℕ_discrete}
@@ -8,13 +8,11 @@ use Rattle.atomic_table.specs.Seated.{TableId}
 use Rattle.atomic_table.proofs.Lists.{at_longer, at_last}
 use Rattle.machine_model.specs.Histories.{History, Meaning, of_lane, BeginsWith}
 use Rattle.machine_model.proofs.HistoryLaws.{of_lane-append}
-use Rattle.lane_lock.specs.declared.view.Stage.TheVariants.{Idle}
-use Rattle.lane_lock.specs.declared.view.View.{View}
 use Rattle.lane_lock.specs.Rules.{Opening, has}
 use Rattle.lane_lock.specs.Steps.{Sitter, joined}
-use Rattle.lane_lock.specs.Seats.{SeatView, IsAtRest}
+use Rattle.lane_lock.specs.Seats.{SeatView}
 use Rattle.lane_lock.specs.Gathering.{Ended, IsPlaceOf, InOrder, Gathered, Closes}
-use Rattle.lane_lock.proofs.Lists.{each_append, has-append}
+use Rattle.lane_lock.proofs.Lists.{has-append}
 use Rattle.lane_lock.proofs.Acting.{has_one}
 
 module _ {X : Type 0} where
@@ -65,7 +63,7 @@ module _ {M B S A : Type 0} (t : Meaning M B S A) (all : List (SeatView M S A)) 
   pub gathers_last : (k : ℕ) (seat : SeatView M S A) (id : TableId) (m : Sitter M S A) → length all ≡ suc k → slice_get all k ≡ Some seat → seat.lane ≡ k → IsPlaceOf t seat id m → Gathered t all k m
   gathers_last k seat id m long there lane p =
       let only : (i : ℕ) (s : SeatView M S A) → k ≤ i → slice_get all i ≡ Some s → (i ≡ k) × (s ≡ seat) = λ i s h at.
-              let inside = get_inside all i s at in let same : i ≡ k = omega arith in (same, let a = sym at ∙ (ap (slice_get all) same ∙ there) in cc) in
+      let inside = get_inside all i s at in let same : i ≡ k = omega arith in (same, let a = sym at ∙ (ap (slice_get all) same ∙ there) in cc) in
       let rest = p.rest in record {
         idle = rest.stage;
         hand = rest.hand;
@@ -89,14 +87,14 @@ module _ {M B S A : Type 0} (t : Meaning M B S A) (all : List (SeatView M S A)) 
             (λ ne. has_left i m.0.lanes other.0.lanes (g.lanes i (omega arith) less));
         seen = λ i s h at log begins met. dite (ℕ_discrete i k)
             (λ e. let is = first s (subst (λ (z : ℕ). slice_get all z ≡ Some s) e at) in
-                subst (BeginsWith log) (p.seen ∙ ap (λ (z : SeatView M S A). z.seen) (sym is)) (met_at (BeginsWith log) m.0.met other.0.met other.0.seen met))
+            subst (BeginsWith log) (p.seen ∙ ap (λ (z : SeatView M S A). z.seen) (sym is)) (met_at (BeginsWith log) m.0.met other.0.met other.0.seen met))
             (λ ne. g.seen i s (omega arith) at log begins (met_longer (BeginsWith log) m.0.met (other.0.seen ∷ other.0.met) met));
         own = λ i s h at. of_lane-append t.lane i m.0.own other.0.own ∙ dite (ℕ_discrete i k)
             (λ e. let is = first s (subst (λ (z : ℕ). slice_get all z ≡ Some s) e at) in
-                ap (λ (z : History S A). z ++ of_lane t.lane i other.0.own) (g.below i (omega arith))
-                ∙ (ap (λ (z : ℕ). of_lane t.lane z other.0.own) (e ∙ sym lane) ∙ (rest.own ∙ (p.own ∙ ap (λ (z : SeatView M S A). z.own) (sym is)))))
+            ap (λ (z : History S A). z ++ of_lane t.lane i other.0.own) (g.below i (omega arith))
+            ∙ (ap (λ (z : ℕ). of_lane t.lane z other.0.own) (e ∙ sym lane) ∙ (rest.own ∙ (p.own ∙ ap (λ (z : SeatView M S A). z.own) (sym is)))))
             (λ ne. ap (λ (z : History S A). of_lane t.lane i m.0.own ++ z) (none_else i seat id other p (λ e. ne (e ∙ lane)))
-                ∙ (append-nil (of_lane t.lane i m.0.own) ∙ g.own i s (omega arith) at));
+            ∙ (append-nil (of_lane t.lane i m.0.own) ∙ g.own i s (omega arith) at));
         below = λ l less. of_lane-append t.lane l m.0.own other.0.own ∙ (ap (λ (z : History S A). z ++ of_lane t.lane l other.0.own) (g.below l (omega arith))
             ∙ none_else l seat id other p (λ e. omega arith));
       }

@@ -1,13 +1,11 @@
 -- A seat for each lane, cut off one by one from the seat that keeps all.
-use Rattle.std.proofs.Common.{◌≡◌, ℕ, zero, suc, ◌+◌, ◌<◌, ◌≤◌, true, false, List, [], ◌∷◌, ◌++◌, length, map, take, drop, Some, refl, sym, ap, ◌∙◌, subst, append_assoc, arith}
+use Rattle.std.proofs.Common.{◌≡◌, ℕ, zero, suc, ◌+◌, ◌<◌, ◌≤◌, List, [], ◌∷◌, ◌++◌, length, map, refl, sym, ap, ◌∙◌, subst, arith}
 use mathlib.Core.List.{map-append}
 use Rattle.atomic_table.specs.Seated.{TableId}
-use Rattle.machine_model.specs.Histories.{Meaning, of_lane}
-use Rattle.lane_lock.specs.declared.view.Stage.TheVariants.{Idle}
-use Rattle.lane_lock.specs.declared.view.View.{View}
+use Rattle.machine_model.specs.Histories.{Meaning}
 use Rattle.lane_lock.specs.Rules.{has, lanes_from, newcomer}
 use Rattle.lane_lock.specs.Steps.{Sitter, keeping, given}
-use Rattle.lane_lock.specs.Seats.{LockView, SeatView, seat_view, first_seat, IsAtRest}
+use Rattle.lane_lock.specs.Seats.{LockView, seat_view, first_seat, IsAtRest}
 use Rattle.lane_lock.specs.Gathering.{CanSplit, opening_in, IsLeft}
 use Rattle.lane_lock.proofs.Steps.{not_busy}
 use Rattle.lane_lock.proofs.Ends.{from_below}

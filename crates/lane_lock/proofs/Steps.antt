@@ -1,20 +1,20 @@
 -- Each step of an act keeps the rule: a ticket is drawn, the ticket served is looked at, the turn is passed on.
-use Rattle.std.proofs.Common.{◌≡◌, ℕ, zero, suc, ◌+◌, ◌%◌, ◌^◌, ◌<◌, ◌≤◌, ◌≢◌, Bool, true, false, List, [], ◌∷◌, ◌++◌, length, drop, set, get_or, sum, sum_by, slice_index, MatchBool, ◌==◌, Option, Some, None, refl, sym, ap, ◌∙◌, subst, ⊎_elim, true≢false, length-set, length-append, length-drop, get_or-set_same, get_or-set_other, eq-eqb, ne_eqb, append-nil, arith}
+use Rattle.std.proofs.Common.{◌≡◌, ℕ, zero, suc, ◌+◌, ◌%◌, ◌^◌, ◌<◌, ◌≤◌, ◌≢◌, Bool, true, false, List, [], ◌∷◌, ◌++◌, length, drop, set, get_or, sum, sum_by, slice_index, MatchBool, ◌==◌, Option, Some, None, refl, sym, ap, ◌∙◌, subst, true≢false, length-set, length-append, length-drop, get_or-set_same, get_or-set_other, eq-eqb, ne_eqb, append-nil, arith}
 use Rattle.std.proofs.Math.Nat.{mod-add-mod}
 use mathlib.Core.Logic.{dite}
-use mathlib.Core.Option.{some, none, some-injective, some-ne-none}
+use mathlib.Core.Option.{some, none, some-ne-none}
 use native.Mathlib.Decide.{ℕ_discrete}
 use lib.ListN.{get_elem?}
 use lib.Seq.{set-get_or}
-use Rattle.atomic_table.specs.Table.{State, Me, Act, keeps, takes, gives, Valid, carried_after, stepped, Allows}
+use Rattle.atomic_table.specs.Table.{State, Act, keeps, takes, gives, Valid, carried_after, stepped, Allows}
 use Rattle.atomic_table.proofs.Lists.{set_again, at_longer, at_last, one_turn}
 use Rattle.machine_model.specs.Histories.{History, Meaning, of_lane, AreBelow, IsLegal, BeginsWith}
 use Rattle.machine_model.proofs.HistoryLaws.{begins_longer, begins_itself, drop_front, of_lane-append, below-append, legal-append, fewer}
 use Rattle.lane_lock.specs.declared.view.Stage.{Stage}
 use Rattle.lane_lock.specs.declared.view.Stage.TheVariants.{Idle, Waits, Turn}
 use Rattle.lane_lock.specs.declared.view.View.{View}
-use Rattle.lane_lock.specs.Rules.{Opening, Moment, has, tickets, Stands, Knows, IsLawful, IsAt, AreTickets, IsHome, Ruled}
-use Rattle.lane_lock.specs.Steps.{Sitter, ticket_of, holding, drew, IsInHand, HasTurn, looked, passed, AreNews, CanPass}
+use Rattle.lane_lock.specs.Rules.{Opening, Moment, has, tickets, Stands, Knows, IsLawful, IsAt, AreTickets, Ruled}
+use Rattle.lane_lock.specs.Steps.{Sitter, ticket_of, drew, IsInHand, HasTurn, looked, passed, AreNews, CanPass}
 use Rattle.lane_lock.proofs.Lists.{each_set, inside, one_there, sum_set, sum_at_most}
 
 pub not_busy : (b : Bool) → ¬ (b ≡ true) → b ≡ false

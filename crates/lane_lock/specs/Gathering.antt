@@ -1,5 +1,5 @@
 -- How the seats of a lock are made from one, and taken in again.
-use Rattle.std.specs.Prelude.{◌≡◌, ℕ, suc, ◌+◌, ◌<◌, ◌≤◌, true, false, List, [], ◌∷◌, ◌++◌, length, map, slice_get, Some}
+use Rattle.std.specs.Prelude.{◌≡◌, ℕ, suc, ◌+◌, ◌<◌, ◌≤◌, true, false, List, [], ◌∷◌, length, slice_get, Some}
 use lib.ListN.{get_elem?}
 use mathlib.Core.Option.{some}
 use Rattle.atomic_table.specs.Seated.{TableId}
@@ -8,7 +8,7 @@ use Rattle.lane_lock.specs.declared.view.Stage.TheVariants.{Idle}
 use Rattle.lane_lock.specs.declared.view.View.{View}
 use Rattle.lane_lock.specs.Rules.{Opening, has, lanes_from, newcomer}
 use Rattle.lane_lock.specs.Steps.{Sitter}
-use Rattle.lane_lock.specs.Seats.{LockView, SeatView, first_seat, IsAtRest}
+use Rattle.lane_lock.specs.Seats.{LockView, SeatView, IsAtRest}
 
 -- the first lane may be given away
 pub record CanSplit {M S A : Type 0} (v : View M S A) : Type 0 where

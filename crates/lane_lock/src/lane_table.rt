@@ -121,7 +121,11 @@ impl<M: Machine> LaneTable<M> {
     }
 
     /// The words and the slot, with a seat that keeps all lanes.
-    pub fn open(alloc: Global, machine: M, shares: &[u64]) -> Result<(LaneTable<M>, Place<M>), AllocError>
+    pub fn open(
+        alloc: Global,
+        machine: M,
+        shares: &[u64],
+    ) -> Result<(LaneTable<M>, Place<M>), AllocError>
         requires fresh { (M.history machine ≡ []) × (sum shares.now ≤ M.spare machine) }
         requires few { length shares.now ≤ 16 }
         ensures key { IfOk result (λ r. (r.0.table.shared.key.machine.value ≡ machine) × (r.0.table.shared.key.shares.value.items ≡ shares.now)) }

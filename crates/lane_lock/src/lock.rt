@@ -30,7 +30,11 @@ impl<M: Machine> LaneLock<M> {
     /// A lock round a machine with an empty history, and a seat for each lane, in order: lane i may keep
     /// `shares[i]` events. There are 1 to 16 lanes, and the machine has room for all shares together.
     /// The error is want of memory, and drops the machine.
-    pub fn new(alloc: Global, machine: M, shares: &[u64]) -> Result<(LaneLock<M>, Vec<Seat<M>>), AllocError>
+    pub fn new(
+        alloc: Global,
+        machine: M,
+        shares: &[u64],
+    ) -> Result<(LaneLock<M>, Vec<Seat<M>>), AllocError>
         requires fresh { (M.history machine ≡ []) × (sum shares.now ≤ M.spare machine) }
         requires few { (0 < length shares.now) × (length shares.now ≤ 16) }
         ensures lock { IfOk result (λ r. (r.0.first ≡ machine) × (r.0.shares ≡ shares.now)) }

@@ -1,4 +1,4 @@
-use Rattle.std.proofs.Common.{◌≡◌, rules, ◌∙◌}
+use Rattle.std.proofs.Common.{◌∙◌}
 use Rattle.lane_lock.proofs.Seating.{can_cut, left_behind, seat_cut, given_rests}
 use Rattle.lane_lock.proofs.lock.cut_off.Goals as goal
 

@@ -1,4 +1,4 @@
-use Rattle.std.proofs.Common.{◌≡◌, rules, ◌∙◌}
+use Rattle.std.proofs.Common.{◌∙◌}
 use Rattle.lane_lock.proofs.Gathers.{gathering_begins, is_of_lock, gathering_goes_on}
 use Rattle.lane_lock.proofs.lock.gather.Goals as goal
 
@@ -11,5 +11,5 @@ join-requires-clause-ours g c κs within =
 
 pub take_in-preserved : goal.take_in-preserved
 take_in-preserved g c = let so_far = gathering_goes_on _ _ _ _ _ c.take_in.seats.items c.pop-in-take_in.new.self.items c.in-Some-pop.seat _ _ _
-        c.requires.ours c.take_in.invariant c.in-Some-pop.ensures.items c.into_place.ensures.place c.join.ensures.joined in
+    c.requires.ours c.take_in.invariant c.in-Some-pop.ensures.items c.into_place.ensures.place c.join.ensures.joined in
     (c.join.ensures.same.0 ∙ c.take_in.invariant.0, so_far.1, so_far.2)

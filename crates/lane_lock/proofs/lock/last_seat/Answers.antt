@@ -1,4 +1,4 @@
-use Rattle.std.proofs.Common.{◌≡◌, rules, ◌∙◌}
+use Rattle.std.proofs.Common.{◌∙◌}
 use Rattle.lane_lock.proofs.Seating.{seat_last, last_rests}
 use Rattle.lane_lock.proofs.lock.last_seat.Goals as goal
 

@@ -1,4 +1,4 @@
-use Rattle.std.proofs.Common.{◌≡◌, rules, ◌∙◌, ◌+◌, refl, arith}
+use Rattle.std.proofs.Common.{rules, ◌∙◌, ◌+◌, refl}
 use Rattle.lane_lock.specs.Seats.{lock_view, first_seat}
 use Rattle.lane_lock.proofs.Seating.{seats-push}
 use Rattle.lane_lock.proofs.lock.seat_lanes.Goals as goal

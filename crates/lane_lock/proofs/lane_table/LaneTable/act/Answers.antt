@@ -1,5 +1,4 @@
-use Rattle.std.proofs.Common.{rules}
-use Rattle.lane_lock.proofs.Acting.{IsActing, may_apply, may_pass, rests, answers}
+use Rattle.lane_lock.proofs.Acting.{may_pass, rests, answers}
 use Rattle.lane_lock.proofs.lane_table.LaneTable.act.Goals as goal
 
 pub pass-requires-clause-can : goal.pass-requires-clause-can

@@ -1,4 +1,4 @@
-use Rattle.std.proofs.Common.{◌≡◌, ◌∷◌, Some, rules, sym, ap, ◌∙◌}
+use Rattle.std.proofs.Common.{◌∷◌, Some, sym, ap, ◌∙◌}
 use Rattle.atomic_table.specs.Table.{rest}
 use Rattle.lane_lock.proofs.lane_table.LaneTable.apply_in_hand.Goals as goal
 

@@ -1,4 +1,3 @@
-use Rattle.std.proofs.Common.{◌≡◌}
 use Rattle.lane_lock.proofs.Ends.{ends_with, ended_in}
 use Rattle.lane_lock.proofs.lane_table.LaneTable.finish.Goals as goal
 
