@@ -45,7 +45,7 @@ module _ {M B S A : Type 0} (t : Meaning M B S A) where
   one_at_most true e = omega arith
   one_at_most false e = omega arith
 
-  kept_is_one : (step : S) (answer : A) → length (kept_of t.keeps step answer) ≤ 1
+  pub kept_is_one : (step : S) (answer : A) → length (kept_of t.keeps step answer) ≤ 1
   kept_is_one step answer = one_at_most (t.keeps step answer) record { step = step; answer = answer }
 
   kept_is_legal : (b : B) (before : History S A) (step : S) (answer : A) → t.fits b step → answer ≡ t.reply b before step → IsLegal t.fits t.reply b before (kept_of t.keeps step answer)

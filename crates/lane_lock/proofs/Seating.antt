@@ -1,11 +1,10 @@
 -- A seat for each lane, cut off one by one from the seat that keeps all.
-use Rattle.std.proofs.Common.{◌≡◌, ℕ, zero, suc, ◌+◌, ◌<◌, ◌≤◌, List, [], ◌∷◌, ◌++◌, length, map, refl, sym, ap, ◌∙◌, subst, arith}
-use mathlib.Core.List.{map-append}
+use Rattle.std.proofs.Common.{◌≡◌, ℕ, zero, suc, ◌+◌, ◌<◌, ◌≤◌, true, List, [], ◌∷◌, ◌++◌, length, slice_get, Some, None, refl, sym, ap, ◌∙◌, subst, arith}
 use Rattle.atomic_table.specs.Seated.{TableId}
 use Rattle.machine_model.specs.Histories.{Meaning}
 use Rattle.lane_lock.specs.Rules.{has, lanes_from, newcomer}
 use Rattle.lane_lock.specs.Steps.{Sitter, keeping, given}
-use Rattle.lane_lock.specs.Seats.{LockView, seat_view, first_seat, IsAtRest}
+use Rattle.lane_lock.specs.Seats.{LockView, SeatView, seat_view, first_seat, AreFirst, IsSeatOf, IsAtRest}
 use Rattle.lane_lock.specs.Gathering.{CanSplit, opening_in, IsLeft}
 use Rattle.lane_lock.proofs.Steps.{not_busy}
 use Rattle.lane_lock.proofs.Ends.{from_below}
@@ -66,17 +65,25 @@ module _ {M S A : Type 0} (lock : LockView M) where
   pub seat_last : (lane : ℕ) (m : Sitter M S A) (id : TableId) → IsLeft lock lane m → length lock.shares ≤ lane + 1 → id ≡ lock.lock → seat_view id lane m ≡ first_seat lock lane
   seat_last lane m id h last same = ap (λ (z : Sitter M S A). seat_view id lane z) (last_is lane m h last) ∙ ap (λ (z : TableId). seat_view z lane (keeps_from lane 1)) same
 
-lanes-push : (from n : ℕ) → lanes_from from n ++ (from + n) ∷ [] ≡ lanes_from from (suc n)
-lanes-push from zero = let e : from + 0 ≡ from = omega arith in ap (λ (k : ℕ). k ∷ []) e
-lanes-push from (suc n) = let e : from + suc n ≡ from + 1 + n = omega arith in
-    ap (λ (k : ℕ). from ∷ (lanes_from (from + 1) n ++ k ∷ [])) e ∙ ap (λ (ls : List ℕ). from ∷ ls) (lanes-push (from + 1) n)
+-- a fact of each place, with one more at the end
+pub each_push : {X : Type 0} (P : ℕ → X → Type 0) (xs : List X) (x : X) → ((k : ℕ) (y : X) → slice_get xs k ≡ Some y → P k y) → P (length xs) x
+    → (k : ℕ) (y : X) → slice_get (xs ++ x ∷ []) k ≡ Some y → P k y
+each_push P [] x all last zero y e = let same : x ≡ y = cc in subst (P 0) same last
+each_push P [] x all last (suc k) y e = absurd cc
+each_push P (z ∷ zs) x all last zero y e = all 0 y e
+each_push P (z ∷ zs) x all last (suc k) y e = each_push (λ m u. P (suc m) u) zs x (λ m u at. all (suc m) u at) last k y e
 
--- one seat more
-pub seats-push : {X : Type 0} (f : ℕ → X) (seats : List X) (x : X) (n more : ℕ) → seats ≡ map f (lanes_from 0 n) → x ≡ f n → more ≡ n + 1
-    → seats ++ x ∷ [] ≡ map f (lanes_from 0 more)
-seats-push f seats x n more so_far is next = ap (λ y. seats ++ y ∷ []) is ∙ (ap (λ xs. xs ++ f n ∷ []) so_far ∙ (sym (map-append f (lanes_from 0 n) (n ∷ []))
-    ∙ ((let e : n ≡ 0 + n = omega arith in ap (λ (k : ℕ). map f (lanes_from 0 n ++ k ∷ [])) e)
-    ∙ (ap (map f) (lanes-push 0 n) ∙ ap (λ (k : ℕ). map f (lanes_from 0 k)) (let e : suc n ≡ more = omega arith in e)))))
+module _ {M S A : Type 0} (lock : LockView M) where
+  -- one seat more
+  pub first-push : (seats : List (SeatView M S A)) (seat : SeatView M S A) (lane : ℕ) → AreFirst lock seats → length seats ≡ lane → seat ≡ first_seat lock lane
+      → AreFirst lock (seats ++ seat ∷ [])
+  first-push seats seat lane all long is = each_push (λ k s. s ≡ first_seat lock k) seats seat all (is ∙ ap (first_seat lock) (sym long))
+
+  -- each is a seat of the lock, in its place, and has no event
+  pub first_is_of : (seats : List (SeatView M S A)) → AreFirst lock seats → (k : ℕ) (s : SeatView M S A) → slice_get seats k ≡ Some s
+      → IsSeatOf lock s × (s.lane ≡ k) × (s.own ≡ [])
+  first_is_of seats all k s there = subst (λ (z : SeatView M S A). IsSeatOf lock z × (z.lane ≡ k) × (z.own ≡ [])) (sym (all k s there))
+      (record { same = refl; opened = refl; shared = refl }, refl, refl)
 
 module _ {M B S A : Type 0} (t : Meaning M B S A) (lock : LockView M) where
   -- each of them is at rest

@@ -1,5 +1,5 @@
 -- A lock and its seats as callers see them, and what an act tells.
-use Rattle.std.specs.Prelude.{◌≡◌, ℕ, List, [], ◌∷◌, ◌++◌, Option, Some}
+use Rattle.std.specs.Prelude.{◌≡◌, ℕ, List, [], ◌∷◌, ◌++◌, slice_get, Option, Some}
 use Rattle.atomic_table.specs.Seated.{TableId}
 use Rattle.machine_model.specs.Histories.{History, Meaning, of_lane, kept_of, IsLegal, BeginsWith}
 use Rattle.atomic_table.specs.declared.shared.Shared.{Shared}
@@ -59,3 +59,7 @@ pub record Answers {M B S A : Type 0} (t : Meaning M B S A) (b : B) (v w : SeatV
 -- a seat as `new` makes it: it has seen nothing and has no event
 abbrev pub first_seat : {M S A : Type 0} → LockView M → ℕ → SeatView M S A
 first_seat lock lane = record { lock = lock.lock; first = Some lock.first; lane = lane; shares = lock.shares; seen = []; own = [] }
+
+-- seats as `new` makes them, in the order of their lanes
+abbrev pub AreFirst : {M S A : Type 0} → LockView M → List (SeatView M S A) → Type 0
+AreFirst {M} {S} {A} lock seats = (k : ℕ) (s : SeatView M S A) → slice_get seats k ≡ Some s → s ≡ first_seat lock k

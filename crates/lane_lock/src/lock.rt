@@ -1,8 +1,7 @@
-ghost use Rattle.std.specs.Prelude.{◌≡◌, ℕ, ◌+◌, ◌<◌, ◌≤◌, [], length, map, sum, slice_index, slice_get, IfOk, Some};
+ghost use Rattle.std.specs.Prelude.{◌≡◌, ℕ, ◌+◌, ◌<◌, ◌≤◌, [], length, sum, slice_index, slice_get, IfOk, Some};
 ghost use Rattle.machine_model.specs.Histories.{meaning, AreBelow, IsLegal};
-ghost use Rattle.lane_lock.specs.Rules.{lanes_from};
 ghost use Rattle.lane_lock.specs.Gathering.{IsLeft, InOrder, Gathered, Closes};
-ghost use Rattle.lane_lock.specs.Seats.{SeatView, lock_view, first_seat, IsSeatOf, Answers};
+ghost use Rattle.lane_lock.specs.Seats.{SeatView, lock_view, first_seat, AreFirst, IsSeatOf, Answers};
 
 use crate::lane_table::{LaneTable, Place};
 use crate::seat::Seat;
@@ -38,7 +37,8 @@ impl<M: Machine> LaneLock<M> {
         requires fresh { (M.history machine ≡ []) × (sum shares.now ≤ M.spare machine) }
         requires few { (0 < length shares.now) × (length shares.now ≤ 16) }
         ensures lock { IfOk result (λ r. (r.0.first ≡ machine) × (r.0.shares ≡ shares.now)) }
-        ensures seats { IfOk result (λ r. r.1.items ≡ map (first_seat r.0) (lanes_from 0 (length shares.now))) }
+        ensures count { IfOk result (λ r. length r.1.items ≡ length shares.now) }
+        ensures seats { IfOk result (λ r. AreFirst r.0 r.1.items) }
     {
         let (lanes, place) = LaneTable::open(alloc, machine, shares)?;
         let seats = seat_lanes(alloc, &lanes, place, shares.len() as u32)?;
@@ -106,7 +106,8 @@ fn seat_lanes<M: Machine>(
     requires ours { place.table_id ≡ lanes.now.table.shared.table_id }
     requires left { IsLeft (lock_view lanes.now.table.shared) 0 place.me }
     requires count { count ≡ length lanes.now.table.shared.key.shares.value.items }
-    ensures seats { IfOk result (λ v. v.items ≡ map (first_seat (lock_view lanes.now.table.shared)) (lanes_from 0 count)) }
+    ensures many { IfOk result (λ v. length v.items ≡ count) }
+    ensures seats { IfOk result (λ v. AreFirst (lock_view lanes.now.table.shared) v.items) }
 {
     let mut seats = Vec::new(alloc);
     let mut lane: u32 = 0;

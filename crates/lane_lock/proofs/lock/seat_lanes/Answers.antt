@@ -1,6 +1,6 @@
-use Rattle.std.proofs.Common.{rules, ◌∙◌, ◌+◌, refl}
-use Rattle.lane_lock.specs.Seats.{lock_view, first_seat}
-use Rattle.lane_lock.proofs.Seating.{seats-push}
+use Rattle.std.proofs.Common.{◌≡◌, ℕ, rules, ◌∙◌, ◌++◌, [], ◌∷◌, subst, sym}
+use Rattle.lane_lock.specs.Seats.{lock_view, AreFirst}
+use Rattle.lane_lock.proofs.Seating.{first-push}
 use Rattle.lane_lock.proofs.lock.seat_lanes.Goals as goal
 
 pub cut-preserved : goal.cut-preserved
@@ -8,11 +8,11 @@ cut-preserved g c = (
   search rules,
   search rules,
   c.cut_off.ensures.left,
-  c.in_ok-push.ensures.items ∙ seats-push (first_seat (lock_view c.args.lanes.now.table.shared)) c.cut.seats.items c.cut_off.result c.cut.lane (c.cut.lane + 1) c.cut.invariant.3 c.cut_off.ensures.seat refl,
+  search rules,
+  subst (AreFirst (lock_view c.args.lanes.now.table.shared)) (sym c.in_ok-push.ensures.items)
+      (first-push (lock_view c.args.lanes.now.table.shared) c.cut.seats.items c.cut_off.result c.cut.lane c.cut.invariant.4 c.cut.invariant.3 c.cut_off.ensures.seat),
 )
 
-pub returns : goal.returns
-returns g c = record {
-  seats = c.in_ok-push-2.ensures.items
-      ∙ seats-push (first_seat (lock_view c.args.lanes.now.table.shared)) c.cut.seats.items c.last_seat.result c.cut.lane c.args.count c.cut.invariant.3 c.last_seat.ensures.seat (search rules);
-}
+pub returns-clause-seats : goal.returns-clause-seats
+returns-clause-seats g c = subst (AreFirst (lock_view c.args.lanes.now.table.shared)) (sym c.in_ok-push-2.ensures.items)
+    (first-push (lock_view c.args.lanes.now.table.shared) c.cut.seats.items c.last_seat.result c.cut.lane c.cut.invariant.4 c.cut.invariant.3 c.last_seat.ensures.seat)

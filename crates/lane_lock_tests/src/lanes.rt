@@ -1,0 +1,139 @@
+//! Lanes that each take their steps in a thread, and the tests of what they leave.
+ghost use Rattle.std.specs.Prelude.{◌≡◌, ℕ, ◌<◌, ◌≤◌, [], length, sum, slice_index, slice_get, vec_len, vec_capacity, ◌-◌, IfOk, Some};
+ghost use Rattle.lane_lock.specs.Seats.{SeatView, IsSeatOf};
+
+use crate::tally::Tally;
+use lane_lock::{LaneLock, Seat, lane};
+use std::alloc::{AllocError, Global};
+use std::process::Abort;
+use std::sync::Wait;
+use std::sync::atomic::{AtomicU64, Ordering};
+use std::thread;
+use std::thread::{Promise, Scope, Threads};
+
+/// That a thread gives back the seat of this lane.
+#[derive(Clone, Copy)]
+struct SeatOf<'a> {
+    lock: &'a LaneLock<Tally>,
+    lane: u32,
+}
+
+impl<'a> Promise<Seat<Tally>> for SeatOf<'a> {
+    ghost kept_by = { λ p r. IsSeatOf p.lock.now r × (r.lane ≡ p.lane) };
+}
+
+/// How many steps a lane takes: so many as it is told, and no more than its share.
+fn steps_of(lane: u32, shares: &[u64], steps: &[u64]) -> u64
+    ensures { result ≤ slice_index shares.now lane }
+{
+    let at = lane as usize;
+    if at < shares.len() && at < steps.len() {
+        shares[at].min(steps[at])
+    } else {
+        0
+    }
+}
+
+/// Takes so many steps, and notes how often each answer came.
+fn run_lane<R: Wait>(
+    rt: &R,
+    lock: &LaneLock<Tally>,
+    seat: Seat<Tally>,
+    count: u64,
+    seen: &[AtomicU64],
+) -> Seat<Tally>
+    requires ours { IsSeatOf lock.now seat }
+    requires room { (seat.own ≡ []) × (count ≤ slice_index seat.shares seat.lane) }
+    ensures ours { IsSeatOf lock.now result }
+    ensures lane { result.lane ≡ seat.lane }
+{
+    let own = lane(&seat);
+    let mut seat = seat;
+    let mut taken = 0;
+    'steps: while taken < count {
+        let answer = lock.act(rt, &mut seat, own);
+        if let Some(times) = seen.get(answer as usize) {
+            times.fetch_add(1, Ordering::SeqCst);
+        }
+        taken += 1;
+    }
+    seat
+}
+
+/// Runs all lanes, each in a thread of the scope. The last is started first, and joined last.
+fn run_lanes<'a: 's, 's, E, R: Wait + Threads + Sync>(
+    scope: &Scope<'s, E>,
+    rt: &'a R,
+    lock: &'a LaneLock<Tally>,
+    mut seats: Vec<Seat<Tally>>,
+    shares: &'a [u64],
+    steps: &'a [u64],
+    seen: &'a [AtomicU64],
+) -> Result<Vec<Seat<Tally>>, AllocError>
+    requires ours { (k : ℕ) (s : SeatView Tally ℕ ℕ) → slice_get seats.items k ≡ Some s → IsSeatOf lock.now s × (s.lane ≡ k) × (s.own ≡ []) }
+    requires shares { shares.now ≡ lock.now.shares }
+    ensures ours { IfOk result (λ r. (k : ℕ) (s : SeatView Tally ℕ ℕ) → slice_get r.items k ≡ Some s → IsSeatOf lock.now s × (s.lane ≡ k)) }
+    ensures all { IfOk result (λ r. length r.items ≡ length seats.items) }
+{
+    let Some(seat) = seats.pop() else {
+        return Ok(seats);
+    };
+    let own = lane(&seat);
+    let count = steps_of(own, shares, steps);
+    let child = scope.spawn_with(
+        SeatOf { lock, lane: own },
+        move || -> Seat<Tally>
+            requires ours { IsSeatOf lock.now seat }
+            requires room { (seat.own ≡ []) × (count ≤ slice_index seat.shares seat.lane) }
+            ensures ours { IsSeatOf lock.entry.now result }
+            ensures lane { result.lane ≡ seat.lane }
+        { run_lane(rt, lock, seat, count, seen) },
+    )?;
+    let mut back = run_lanes(scope, rt, lock, seats, shares, steps, seen)?;
+    back.push(child.join(rt))?;
+    Ok(back)
+}
+
+/// Opens a lock round the machine, runs all lanes, and closes it.
+fn run_tally<R: Wait + Threads + Sync>(
+    rt: &R,
+    alloc: Global,
+    machine: Tally,
+    shares: &[u64],
+    steps: &[u64],
+    seen: &[AtomicU64],
+) -> Result<Tally, AllocError>
+    requires fresh { (machine.events.items ≡ []) × (sum shares.now ≤ vec_capacity machine.events - vec_len machine.events) }
+    requires few { (0 < length shares.now) × (length shares.now ≤ 16) }
+{
+    let opened = LaneLock::new(alloc, machine, shares)?;
+    let (lock, seats) = opened;
+    let back = run_in_scope(rt, &lock, seats, shares, steps, seen)?;
+    Ok(lock.close(back))
+}
+
+/// Runs all lanes in a scope of their own.
+fn run_in_scope<R: Wait + Threads + Sync>(
+    rt: &R,
+    lock: &LaneLock<Tally>,
+    seats: Vec<Seat<Tally>>,
+    shares: &[u64],
+    steps: &[u64],
+    seen: &[AtomicU64],
+) -> Result<Vec<Seat<Tally>>, AllocError>
+    requires ours { (k : ℕ) (s : SeatView Tally ℕ ℕ) → slice_get seats.items k ≡ Some s → IsSeatOf lock.now s × (s.lane ≡ k) × (s.own ≡ []) }
+    requires shares { shares.now ≡ lock.now.shares }
+    ensures ours { IfOk result (λ r. (k : ℕ) (s : SeatView Tally ℕ ℕ) → slice_get r.items k ≡ Some s → IsSeatOf lock.now s × (s.lane ≡ k)) }
+    ensures all { IfOk result (λ r. length r.items ≡ length seats.items) }
+{
+    thread::scope(
+        thread::scope_env(),
+        rt,
+        |scope| -> Result<Vec<Seat<Tally>>, AllocError>
+            requires ours { (k : ℕ) (s : SeatView Tally ℕ ℕ) → slice_get seats.items k ≡ Some s → IsSeatOf lock.now s × (s.lane ≡ k) × (s.own ≡ []) }
+            requires shares { shares.now ≡ lock.now.shares }
+            ensures ours { IfOk result (λ r. (k : ℕ) (s : SeatView Tally ℕ ℕ) → slice_get r.items k ≡ Some s → IsSeatOf lock.entry.now s × (s.lane ≡ k)) }
+            ensures all { IfOk result (λ r. length r.items ≡ length seats.items) }
+        { run_lanes(scope, rt, lock, seats, shares, steps, seen) },
+    )
+}
