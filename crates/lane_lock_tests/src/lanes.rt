@@ -1,5 +1,5 @@
 //! Lanes that each take their steps in a thread, and the tests of what they leave.
-ghost use Rattle.std.specs.Prelude.{◌≡◌, ℕ, ◌<◌, ◌≤◌, [], length, sum, slice_index, slice_get, vec_len, vec_capacity, ◌-◌, IfOk, Some};
+ghost use Rattle.std.specs.Prelude.{◌≡◌, ℕ, ◌<◌, ◌≤◌, [], length, sum, slice_index, slice_get, vec_len, vec_capacity, ◌-◌, IfOk, IfSome, Some};
 ghost use Rattle.lane_lock.specs.Seats.{SeatView, IsSeatOf};
 
 use crate::tally::Tally;
@@ -136,4 +136,105 @@ fn run_in_scope<R: Wait + Threads + Sync>(
             ensures all { IfOk result (λ r. length r.items ≡ length seats.items) }
         { run_lanes(scope, rt, lock, seats, shares, steps, seen) },
     )
+}
+
+/// The shares added up, where they are a number.
+fn total(shares: &[u64]) -> Option<u64>
+    ensures { IfSome result (λ n. sum shares.now ≡ n) }
+{
+    let mut sum: u64 = 0;
+    let mut at = 0;
+    'add: while at < shares.len() {
+        let Some(more) = sum.checked_add(shares[at]) else {
+            return None;
+        };
+        sum = more;
+        at += 1;
+    }
+    Some(sum)
+}
+
+/// How often each answer from 0 to this one came.
+fn counters(alloc: Global, last: u64) -> Result<Vec<AtomicU64>, AllocError> {
+    let mut seen = Vec::new(alloc);
+    for _ in 0..last {
+        seen.push(AtomicU64::new(0))?;
+    }
+    seen.push(AtomicU64::new(0))?;
+    Ok(seen)
+}
+
+/// Runs a machine with these shares, if there are 1 to 16. Answers how many steps it took, and how many events it has.
+fn outcome<R: Wait + Threads + Sync>(
+    rt: &R,
+    alloc: Global,
+    keeps: bool,
+    shares: &[u64],
+    steps: &[u64],
+    seen: &[AtomicU64],
+) -> Result<(u64, u64), AllocError> {
+    let Some(room) = total(shares) else {
+        return Err(AllocError);
+    };
+    if shares.is_empty() || shares.len() > 16 {
+        return Err(AllocError);
+    }
+    let machine = Tally::new(alloc, keeps, room)?;
+    let end = run_tally(rt, alloc, machine, shares, steps, seen)?;
+    Ok((end.taken(), end.events()))
+}
+
+/// Sees that each answer from 1 to the last came once, and no other.
+fn each_once(rt: &impl Abort, seen: &[AtomicU64]) {
+    for (answer, times) in seen.iter().enumerate() {
+        let times = times.load(Ordering::SeqCst);
+        let want = if answer == 0 { 0 } else { 1 };
+        assert!(rt; times == want, "answer {answer} came {times} times");
+    }
+}
+
+#[test]
+fn four_lanes_take_a_thousand_numbers(rt: HostRuntime) {
+    let alloc = rt.alloc();
+    let seen = counters(alloc, 1000).expect(&rt, "memory");
+    let end = outcome(&rt, alloc, true, &[250; 4], &[250; 4], seen.as_slice());
+    assert!(&rt; matches!(end, Ok((1000, 1000))), "the machine is at 1000");
+    each_once(&rt, seen.as_slice());
+}
+
+#[test]
+fn sixteen_lanes_take_a_thousand_numbers(rt: HostRuntime) {
+    let alloc = rt.alloc();
+    let seen = counters(alloc, 1008).expect(&rt, "memory");
+    let end = outcome(&rt, alloc, true, &[63; 16], &[63; 16], seen.as_slice());
+    assert!(&rt; matches!(end, Ok((1008, 1008))), "the machine is at 1008");
+    each_once(&rt, seen.as_slice());
+}
+
+#[test]
+fn a_lane_that_never_steps_holds_no_other_up(rt: HostRuntime) {
+    let alloc = rt.alloc();
+    let seen = counters(alloc, 600).expect(&rt, "memory");
+    let end = outcome(&rt, alloc, true, &[300, 300, 300], &[300, 0, 300], seen.as_slice());
+    assert!(&rt; matches!(end, Ok((600, 600))), "two lanes have stepped");
+    each_once(&rt, seen.as_slice());
+}
+
+#[test]
+fn shares_of_nothing_leave_the_machine_as_it_was(rt: HostRuntime) {
+    let alloc = rt.alloc();
+    let seen = counters(alloc, 0).expect(&rt, "memory");
+    let end = outcome(&rt, alloc, true, &[0; 4], &[250; 4], seen.as_slice());
+    assert!(&rt; matches!(end, Ok((0, 0))), "nobody has stepped");
+    each_once(&rt, seen.as_slice());
+}
+
+#[test]
+fn a_machine_that_keeps_nothing_counts_all_the_same(rt: HostRuntime) {
+    let alloc = rt.alloc();
+    let seen = counters(alloc, 0).expect(&rt, "memory");
+    let end = outcome(&rt, alloc, false, &[250; 4], &[250; 4], seen.as_slice());
+    assert!(&rt; matches!(end, Ok((1000, 0))), "it took 1000 steps and kept none");
+    let zeros = seen.as_slice()[0].load(Ordering::SeqCst);
+    assert!(&rt; zeros == 1000, "each answer is 0");
 }
