@@ -73,6 +73,12 @@ each_push P [] x all last (suc k) y e = absurd cc
 each_push P (z ∷ zs) x all last zero y e = all 0 y e
 each_push P (z ∷ zs) x all last (suc k) y e = each_push (λ m u. P (suc m) u) zs x (λ m u at. all (suc m) u at) last k y e
 
+-- what stands in a list stands in a longer one
+pub get_longer : {X : Type 0} (xs ys : List X) (k : ℕ) (x : X) → slice_get xs k ≡ Some x → slice_get (xs ++ ys) k ≡ Some x
+get_longer [] ys k x e = absurd cc
+get_longer (z ∷ zs) ys zero x e = e
+get_longer (z ∷ zs) ys (suc k) x e = get_longer zs ys k x e
+
 module _ {M S A : Type 0} (lock : LockView M) where
   -- one seat more
   pub first-push : (seats : List (SeatView M S A)) (seat : SeatView M S A) (lane : ℕ) → AreFirst lock seats → length seats ≡ lane → seat ≡ first_seat lock lane

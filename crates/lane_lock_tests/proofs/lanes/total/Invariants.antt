@@ -2,7 +2,7 @@ use Rattle.std.proofs.Common.{◌≡◌, ◌+◌, ◌≤◌, ◌-◌, length, dr
 use Rattle.lane_lock_tests.proofs.lanes.total.Given as goal
 
 abbrev pub decreases-add : goal.decreases-add
-decreases-add g l = length l.shares - l.at
+decreases-add l = length l.shares - l.at
 
 abbrev pub invariant-add : goal.invariant-add
-invariant-add g l = (l.at ≤ length l.shares) × (l.sum + sum (drop l.at l.shares) ≡ sum l.shares)
+invariant-add l = (l.at ≤ length l.shares) × (l.sum + sum (drop l.at l.shares) ≡ sum l.shares)
