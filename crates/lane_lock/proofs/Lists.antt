@@ -8,12 +8,14 @@ use Rattle.lane_lock.specs.Rules.{has}
 
 module _ {X : Type 0} where
   -- a fact of each element, where one is set
-  pub each_set : (K : ℕ → X → Type 0) (xs : List X) (i : ℕ) (y : X) → K i y → ((j : ℕ) (x : X) → j ≢ i → get_elem? xs j ≡ some x → K j x) → (j : ℕ) (x : X) → get_elem? (set xs i y) j ≡ some x → K j x
+  pub each_set : (K : ℕ → X → Type 0) (xs : List X) (i : ℕ) (y : X) → K i y → ((j : ℕ) (x : X) → j ≢ i → get_elem? xs j ≡ some x → K j x)
+      → (j : ℕ) (x : X) → get_elem? (set xs i y) j ≡ some x → K j x
   each_set K xs i y mine others j x e = ⊎_elim (λ (h : (j ≡ i) × (y ≡ x)). subst (λ (z : ℕ × X). K z.0 z.1) (λ k. (sym h.0 k, h.1 k)) mine)
       (λ (h : (j ≢ i) × (get_elem? xs j ≡ some x)). others j x h.0 h.1) (at_set xs i j y x e)
 
   -- what stands in a list with one more at its end
-  pub at_end : (xs : List X) (y : X) (j : ℕ) (x : X) → get_elem? (xs ++ y ∷ []) j ≡ some x → (get_elem? xs j ≡ some x) ⊎ ((j ≡ length xs) × (y ≡ x))
+  pub at_end : (xs : List X) (y : X) (j : ℕ) (x : X) → get_elem? (xs ++ y ∷ []) j ≡ some x
+      → (get_elem? xs j ≡ some x) ⊎ ((j ≡ length xs) × (y ≡ x))
   at_end [] y zero x e = inr (refl, some-injective y x e)
   at_end [] y (suc j) x e = absurd (some-ne-none x (sym e))
   at_end (z ∷ zs) y zero x e = inl e
@@ -29,28 +31,34 @@ module _ {X : Type 0} where
   one_there xs j x y a b = some-injective x y (sym a ∙ b)
 
   -- what stands in two lists, one after the other
-  pub each_append : (P : X → Type 0) (xs ys : List X) → ((k : ℕ) (x : X) → get_elem? xs k ≡ some x → P x) → ((k : ℕ) (x : X) → get_elem? ys k ≡ some x → P x)
+  pub each_append : (P : X → Type 0) (xs ys : List X) → ((k : ℕ) (x : X) → get_elem? xs k ≡ some x → P x)
+      → ((k : ℕ) (x : X) → get_elem? ys k ≡ some x → P x)
       → (k : ℕ) (x : X) → get_elem? (xs ++ ys) k ≡ some x → P x
   each_append P [] ys a b k x e = b k x e
   each_append P (z ∷ zs) ys a b zero x e = a 0 x e
   each_append P (z ∷ zs) ys a b (suc k) x e = each_append P zs ys (λ m y at. a (suc m) y at) b k x e
 
-  pub each_cons : (P : X → Type 0) (y : X) (ys : List X) → P y → ((k : ℕ) (x : X) → get_elem? ys k ≡ some x → P x) → (k : ℕ) (x : X) → get_elem? (y ∷ ys) k ≡ some x → P x
+  pub each_cons : (P : X → Type 0) (y : X) (ys : List X) → P y → ((k : ℕ) (x : X) → get_elem? ys k ≡ some x → P x) → (k : ℕ) (x : X)
+      → get_elem? (y ∷ ys) k ≡ some x → P x
   each_cons P y ys p each zero x e = subst P (some-injective y x e) p
   each_cons P y ys p each (suc k) x e = each k x e
 
   pub sum_set : (f : X → ℕ) (xs : List X) (i : ℕ) (v w : X) → get_elem? xs i ≡ some v → sum_by f (set xs i w) + f v ≡ sum_by f xs + f w
   sum_set f [] i v w e = absurd (some-ne-none v (sym e))
-  sum_set f (x ∷ xs) zero v w e = let a = sum_by-cons f x xs in let b = sum_by-cons f w xs in let c : f x ≡ f v = ap f (some-injective x v e) in omega arith
-  sum_set f (x ∷ xs) (suc i) v w e = let a = sum_by-cons f x xs in let b = sum_by-cons f x (set xs i w) in let c = sum_set f xs i v w e in omega arith
+  sum_set f (x ∷ xs) zero v w e = let a = sum_by-cons f x xs in let b = sum_by-cons f w xs in
+      let c : f x ≡ f v = ap f (some-injective x v e) in omega arith
+  sum_set f (x ∷ xs) (suc i) v w e = let a = sum_by-cons f x xs in let b = sum_by-cons f x (set xs i w) in let c = sum_set f xs i v w e in
+      omega arith
 
   pub sum_at_most : (f g : X → ℕ) (xs : List X) → ((j : ℕ) (x : X) → get_elem? xs j ≡ some x → f x ≤ g x) → sum_by f xs ≤ sum_by g xs
   sum_at_most f g [] most = omega arith
-  sum_at_most f g (x ∷ xs) most = let a = sum_by-cons f x xs in let b = sum_by-cons g x xs in let c = most 0 x refl in let d = sum_at_most f g xs (λ j y e. most (suc j) y e) in omega arith
+  sum_at_most f g (x ∷ xs) most = let a = sum_by-cons f x xs in let b = sum_by-cons g x xs in let c = most 0 x refl in
+      let d = sum_at_most f g xs (λ j y e. most (suc j) y e) in omega arith
 
   pub sum_nothing : (f : X → ℕ) (xs : List X) → ((j : ℕ) (x : X) → get_elem? xs j ≡ some x → f x ≡ 0) → sum_by f xs ≡ 0
   sum_nothing f [] none = refl
-  sum_nothing f (x ∷ xs) none = let a = sum_by-cons f x xs in let b = none 0 x refl in let c = sum_nothing f xs (λ j y e. none (suc j) y e) in omega arith
+  sum_nothing f (x ∷ xs) none = let a = sum_by-cons f x xs in let b = none 0 x refl in
+      let c = sum_nothing f xs (λ j y e. none (suc j) y e) in omega arith
 
 pub has-append : (l : ℕ) (xs ys : List ℕ) → has l (xs ++ ys) ≡ (has l xs || has l ys)
 has-append l [] ys = refl

@@ -44,7 +44,8 @@ module _ {S A : Type 0} (now : Moment S A) (seat : ℕ) (lanes : List ℕ) (seen
   -- where a seat stands: a ticket is its place in the line, the turn is the head of the line, and who has the turn has seen all
   abbrev pub Stands : Stage → Type 0
   Stands Idle = Unit {0}
-  Stands (Waits n) = (0 < length lanes) × ((p : ℕ) × (get_elem? now.line p ≡ some seat) × (n ≡ (now.served + p) % 2 ^ 64) × (now.busy ≡ true → 0 < p))
+  Stands (Waits n) = (0 < length lanes)
+      × ((p : ℕ) × (get_elem? now.line p ≡ some seat) × (n ≡ (now.served + p) % 2 ^ 64) × (now.busy ≡ true → 0 < p))
   Stands Turn = (0 < length lanes) × (now.busy ≡ true) × (get_elem? now.line 0 ≡ some seat) × (seen ≡ now.log)
 
 -- a seat's view is true of the moment. A spent view keeps no lane, so nothing is said of it
@@ -61,6 +62,7 @@ pub record Knows {M B S A : Type 0} (t : Meaning M B S A) (o : Opening M) (now :
   pub own : (l : ℕ) → has l v.lanes ≡ true → of_lane t.lane l v.own ≡ of_lane t.lane l now.log
   -- and it has none of other lanes
   pub others : (l : ℕ) → has l v.lanes ≡ false → of_lane t.lane l v.own ≡ []
+  -- its ticket and its turn are as the line has them
   pub stage : Stands now seat v.lanes v.seen v.stage
 
 -- the history is legal, all its events are of the lock's lanes, and each lane has its share at the most
@@ -83,20 +85,27 @@ pub record AreTickets (words : List ℕ) (served waiting : ℕ) : Type 0 where
 
 -- the slot is empty while a seat has the turn, and has the machine else
 abbrev pub IsHome : {M B S A : Type 0} → Meaning M B S A → Opening M → Moment S A → List (mathlib.Core.Option.Option (Option M)) → Type 0
-IsHome {M} t o now homes = MatchBool now.busy (homes ≡ none ∷ []) ((machine : M) × (homes ≡ some (Some machine) ∷ []) × IsAt t o now.log machine)
+IsHome {M} t o now homes = MatchBool now.busy (homes ≡ none ∷ []) ((machine : M) × (homes ≡ some (Some machine) ∷ [])
+    × IsAt t o now.log machine)
 
 -- the rule
 pub record Ruled {M B S A : Type 0} (t : Meaning M B S A) (o : Opening M) (s : State (Option M) (View M S A)) : Type 0 where
   pub now : Moment S A
+  -- the words count the line
   pub words : AreTickets s.words now.served (length now.line)
+  -- a lock has sixteen lanes at the most, so that no two tickets that are out are one number
   pub few : length o.shares ≤ 16
   -- the lanes of all views are no more than there are
   pub lanes : sum_by (λ (v : View M S A). length v.lanes) s.views ≤ length o.shares
   -- the line has as many places as there are tickets out
   pub waiting : sum_by (λ (v : View M S A). tickets v.stage) s.views ≡ length now.line
+  -- who has the machine in hand stands in the line
   pub occupied : now.busy ≡ true → 0 < length now.line
+  -- the machine is in the slot, or in that hand
   pub home : IsHome t o now s.homes
+  -- there is one legal history
   pub lawful : IsLawful t o now.log
+  -- and each view is true of it
   pub each : (j : ℕ) (v : View M S A) → get_elem? s.views j ≡ some v → Knows t o now j v
 
 -- lanes from one on, so many
@@ -106,4 +115,12 @@ lanes_from l (suc n) = l ∷ lanes_from (l + 1) n
 
 -- the first seat keeps all lanes and has seen nothing
 abbrev pub newcomer : {M S A : Type 0} → Opening M → View M S A
-newcomer o = record { lanes = lanes_from 0 (length o.shares); shares = o.shares; stage = Idle; seen = []; met = []; own = []; origin = Some o.machine }
+newcomer o = record {
+  lanes = lanes_from 0 (length o.shares);
+  shares = o.shares;
+  stage = Idle;
+  seen = [];
+  met = [];
+  own = [];
+  origin = Some o.machine;
+}

@@ -54,14 +54,16 @@ pub record IsInHand {M B S A : Type 0} (t : Meaning M B S A) (v : View M S A) (m
 module _ {M B S A : Type 0} (t : Meaning M B S A) where
   -- look at the ticket served: the turn with the machine, and all its history seen
   abbrev pub HasTurn : View M S A → Sitter M S A → Type 0
-  HasTurn v m' = (machine now : M) × (v.origin ≡ Some machine) × IsInHand t v machine now × (m' ≡ (record v { stage = Turn; seen = t.history now }, holding now))
+  HasTurn v m' = (machine now : M) × (v.origin ≡ Some machine) × IsInHand t v machine now
+      × (m' ≡ (record v { stage = Turn; seen = t.history now }, holding now))
 
   abbrev pub looked : Sitter M S A → ℕ → Sitter M S A → Type 0
   looked m r m' = MatchBool (r == ticket_of m.0.stage) (HasTurn m.0 m') (m' ≡ m)
 
   -- pass: what the machine's history has beyond what was seen is the seat's own
   abbrev pub passed : Sitter M S A → Sitter M S A → Type 0
-  passed m m' = (now : M) → m.1 ≡ holding now → m' ≡ (record m.0 { stage = Idle; seen = t.history now; own = m.0.own ++ drop (length m.0.seen) (t.history now) }, [])
+  passed m m' = (now : M) → m.1 ≡ holding now
+      → m' ≡ (record m.0 { stage = Idle; seen = t.history now; own = m.0.own ++ drop (length m.0.seen) (t.history now) }, [])
 
 -- a step was applied to a machine
 pub record Applied {M B S A : Type 0} (t : Meaning M B S A) (now : M) (step : S) (answer : A) (after : M) : Type 0 where

@@ -10,11 +10,11 @@ ghost use Rattle.lane_lock.specs.Steps.{drew, keeping, given, joined, HasTurn, p
 use crate::turns::{Draw, GiveLane, Look, Pass, TakeIn, Turns};
 use crate::view::{Start, View};
 use atomic_table::{Seat, Table};
+use crossbeam_utils::Backoff;
 use machine_model::Machine;
 use std::alloc::{AllocError, Global};
 use std::snapshot::Snapshot;
 use std::sync::Wait;
-use std::thread;
 
 /// The word with the ticket that is drawn next.
 const NEXT: usize = 0;
@@ -52,7 +52,9 @@ impl<M: Machine> LaneTable<M> {
         requires ours { place.old.table_id ≡ self.now.table.shared.table_id }
         requires waits { (place.old.me.0.stage ≡ Waits ticket) × (place.old.me.1 ≡ []) }
         ensures same { IsSame place.old place.new }
-        ensures turn { MatchBool result (HasTurn (meaning M.base M.history M.spare M.lane_of M.fits M.reply M.keeps) place.old.me.0 place.new.me) (place.new.me ≡ place.old.me) }
+        ensures turn { MatchBool result
+            (HasTurn (meaning M.base M.history M.spare M.lane_of M.fits M.reply M.keeps) place.old.me.0 place.new.me)
+            (place.new.me ≡ place.old.me) }
     {
         self.table.shared.load::<Look<M>>(place, SERVED) == ticket
     }
@@ -66,11 +68,12 @@ impl<M: Machine> LaneTable<M> {
         ensures turn { HasTurn (meaning M.base M.history M.spare M.lane_of M.fits M.reply M.keeps) place.old.me.0 place.new.me }
     {
         let ticket = self.draw(place);
+        let backoff = Backoff::new();
         for _ in rt.forever() {
             if self.look(place, ticket) {
                 return;
             }
-            thread::yield_now();
+            backoff.snooze();
         }
         unreachable!()
     }
@@ -80,7 +83,8 @@ impl<M: Machine> LaneTable<M> {
         requires ours { place.old.table_id ≡ self.now.table.shared.table_id }
         requires can { (now : M) × (place.old.me.1 ≡ holding now) × M.fits (M.base now) step × (0 < M.spare now) }
         ensures same { IsSame place.old place.new }
-        ensures applied { HasApplied (meaning M.base M.history M.spare M.lane_of M.fits M.reply M.keeps) step result place.old.me place.new.me }
+        ensures applied { HasApplied (meaning M.base M.history M.spare M.lane_of M.fits M.reply M.keeps) step result place.old.me
+            place.new.me }
     {
         let Some(mut machine) = self.table.shared.exchange(place, MACHINE, None) else {
             unreachable!()
@@ -112,7 +116,9 @@ impl<M: Machine> LaneTable<M> {
         ensures same { IsSame place.old place.new }
         ensures told { IsTold place.old.me.0 place.new.me.0 }
         ensures rest { IsAtRest (meaning M.base M.history M.spare M.lane_of M.fits M.reply M.keeps) (M.lane_of step) place.new.me }
-        ensures act { Answers (meaning M.base M.history M.spare M.lane_of M.fits M.reply M.keeps) (M.base self.now.table.shared.key.machine.value) (seat_view place.old.table_id (M.lane_of step) place.old.me) (seat_view place.new.table_id (M.lane_of step) place.new.me) step result }
+        ensures act { Answers (meaning M.base M.history M.spare M.lane_of M.fits M.reply M.keeps)
+            (M.base self.now.table.shared.key.machine.value) (seat_view place.old.table_id (M.lane_of step) place.old.me)
+            (seat_view place.new.table_id (M.lane_of step) place.new.me) step result }
     {
         self.take_turn(rt, place);
         let answer = self.apply_in_hand(place, step);
@@ -128,8 +134,10 @@ impl<M: Machine> LaneTable<M> {
     ) -> Result<(LaneTable<M>, Place<M>), AllocError>
         requires fresh { (M.history machine ≡ []) × (sum shares.now ≤ M.spare machine) }
         requires few { length shares.now ≤ 16 }
-        ensures key { IfOk result (λ r. (r.0.table.shared.key.machine.value ≡ machine) × (r.0.table.shared.key.shares.value.items ≡ shares.now)) }
-        ensures place { IfOk result (λ r. (r.1.table_id ≡ r.0.table.shared.table_id) × (r.1.me ≡ (newcomer (opening_of machine shares.now), []))) }
+        ensures key { IfOk result (λ r. (r.0.table.shared.key.machine.value ≡ machine)
+            × (r.0.table.shared.key.shares.value.items ≡ shares.now)) }
+        ensures place { IfOk result (λ r. (r.1.table_id ≡ r.0.table.shared.table_id)
+            × (r.1.me ≡ (newcomer (opening_of machine shares.now), []))) }
     {
         let mut kept = Vec::new(alloc);
         kept.extend_from_slice(shares)?;
@@ -172,7 +180,8 @@ impl<M: Machine> LaneTable<M> {
         requires ours { place.table_id ≡ self.table.shared.table_id }
         requires idle { place.me.0.stage ≡ Idle }
         requires all { (l : ℕ) → l < length self.table.shared.key.shares.value.items → has l place.me.0.lanes ≡ true }
-        ensures ended { Ended (meaning M.base M.history M.spare M.lane_of M.fits M.reply M.keeps) (opening_of self.table.shared.key.machine.value self.table.shared.key.shares.value.items) place.me.0 result }
+        ensures ended { Ended (meaning M.base M.history M.spare M.lane_of M.fits M.reply M.keeps)
+            (opening_of self.table.shared.key.machine.value self.table.shared.key.shares.value.items) place.me.0 result }
     {
         let LaneTable { table } = self;
         let mut closed = table.close_with(place);

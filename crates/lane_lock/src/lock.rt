@@ -54,7 +54,8 @@ impl<M: Machine> LaneLock<M> {
         requires room { length seat.old.own < slice_index seat.old.shares seat.old.lane }
         ensures same { IsSeatOf self.now seat.new }
         ensures lane { seat.new.lane ≡ seat.old.lane }
-        ensures act { Answers (meaning M.base M.history M.spare M.lane_of M.fits M.reply M.keeps) (M.base self.now.first) seat.old seat.new step result }
+        ensures act { Answers (meaning M.base M.history M.spare M.lane_of M.fits M.reply M.keeps)
+            (M.base self.now.first) seat.old seat.new step result }
     {
         self.lanes.act(rt, &mut seat.place, step)
     }
@@ -66,7 +67,8 @@ impl<M: Machine> LaneLock<M> {
         ensures base { M.base result ≡ M.base self.first }
         ensures legal { IsLegal M.fits M.reply (M.base self.first) [] (M.history result) }
         ensures lanes { AreBelow M.lane_of (length self.shares) (M.history result) }
-        ensures seats { (k : ℕ) (s : SeatView M M.Step M.Answer) → slice_get seats.items k ≡ Some s → Closes (meaning M.base M.history M.spare M.lane_of M.fits M.reply M.keeps) result k s }
+        ensures seats { (k : ℕ) (s : SeatView M M.Step M.Answer) → slice_get seats.items k ≡ Some s
+            → Closes (meaning M.base M.history M.spare M.lane_of M.fits M.reply M.keeps) result k s }
     {
         let LaneLock { lanes } = self;
         let place = gather(&lanes, seats);

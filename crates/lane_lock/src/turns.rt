@@ -14,7 +14,8 @@ pub struct Turns<M> {
 }
 
 impl<M: Machine> TableRule<Option<M>, View<M, M::Step, M::Answer>, Start<M>> for Turns<M> {
-    ghost holds = { λ key. Ruled (meaning M.base M.history M.spare M.lane_of M.fits M.reply M.keeps) (opening_of key.machine.value key.shares.value.items) };
+    ghost holds = { λ key. Ruled (meaning M.base M.history M.spare M.lane_of M.fits M.reply M.keeps)
+        (opening_of key.machine.value key.shares.value.items) };
 
     ghost first = { λ key. newcomer (opening_of key.machine.value key.shares.value.items) };
 }

@@ -70,7 +70,8 @@ fn run_lanes<'a: 's, 's, E, R: Wait + Threads + Sync>(
     steps: &'a [u64],
     seen: &'a [AtomicU64],
 ) -> Result<Vec<Seat<Tally>>, AllocError>
-    requires ours { (k : ℕ) (s : SeatView Tally ℕ ℕ) → slice_get seats.items k ≡ Some s → IsSeatOf lock.now s × (s.lane ≡ k) × (s.own ≡ []) }
+    requires ours { (k : ℕ) (s : SeatView Tally ℕ ℕ) → slice_get seats.items k ≡ Some s → IsSeatOf lock.now s × (s.lane ≡ k)
+        × (s.own ≡ []) }
     requires shares { shares.now ≡ lock.now.shares }
     ensures ours { IfOk result (λ r. (k : ℕ) (s : SeatView Tally ℕ ℕ) → slice_get r.items k ≡ Some s → IsSeatOf lock.now s × (s.lane ≡ k)) }
     ensures all { IfOk result (λ r. length r.items ≡ length seats.items) }
@@ -121,7 +122,8 @@ fn run_in_scope<R: Wait + Threads + Sync>(
     steps: &[u64],
     seen: &[AtomicU64],
 ) -> Result<Vec<Seat<Tally>>, AllocError>
-    requires ours { (k : ℕ) (s : SeatView Tally ℕ ℕ) → slice_get seats.items k ≡ Some s → IsSeatOf lock.now s × (s.lane ≡ k) × (s.own ≡ []) }
+    requires ours { (k : ℕ) (s : SeatView Tally ℕ ℕ) → slice_get seats.items k ≡ Some s → IsSeatOf lock.now s × (s.lane ≡ k)
+        × (s.own ≡ []) }
     requires shares { shares.now ≡ lock.now.shares }
     ensures ours { IfOk result (λ r. (k : ℕ) (s : SeatView Tally ℕ ℕ) → slice_get r.items k ≡ Some s → IsSeatOf lock.now s × (s.lane ≡ k)) }
     ensures all { IfOk result (λ r. length r.items ≡ length seats.items) }
@@ -130,9 +132,11 @@ fn run_in_scope<R: Wait + Threads + Sync>(
         thread::scope_env(),
         rt,
         |scope| -> Result<Vec<Seat<Tally>>, AllocError>
-            requires ours { (k : ℕ) (s : SeatView Tally ℕ ℕ) → slice_get seats.items k ≡ Some s → IsSeatOf lock.now s × (s.lane ≡ k) × (s.own ≡ []) }
+            requires ours { (k : ℕ) (s : SeatView Tally ℕ ℕ) → slice_get seats.items k ≡ Some s → IsSeatOf lock.now s × (s.lane ≡ k)
+                × (s.own ≡ []) }
             requires shares { shares.now ≡ lock.now.shares }
-            ensures ours { IfOk result (λ r. (k : ℕ) (s : SeatView Tally ℕ ℕ) → slice_get r.items k ≡ Some s → IsSeatOf lock.entry.now s × (s.lane ≡ k)) }
+            ensures ours { IfOk result (λ r. (k : ℕ) (s : SeatView Tally ℕ ℕ) → slice_get r.items k ≡ Some s → IsSeatOf lock.entry.now s
+                × (s.lane ≡ k)) }
             ensures all { IfOk result (λ r. length r.items ≡ length seats.items) }
         { run_lanes(scope, rt, lock, seats, shares, steps, seen) },
     )
@@ -223,7 +227,14 @@ fn sixteen_lanes_take_a_thousand_numbers(rt: HostRuntime) {
 fn a_lane_that_never_steps_holds_no_other_up(rt: HostRuntime) {
     let alloc = rt.alloc();
     let seen = counters(alloc, 600).expect(&rt, "memory");
-    let end = outcome(&rt, alloc, true, &[300, 300, 300], &[300, 0, 300], seen.as_slice());
+    let end = outcome(
+        &rt,
+        alloc,
+        true,
+        &[300, 300, 300],
+        &[300, 0, 300],
+        seen.as_slice(),
+    );
     assert!(&rt; matches!(end, Ok((600, 600))), "two lanes have stepped");
     each_once(&rt, seen.as_slice());
 }
@@ -242,6 +253,9 @@ fn a_machine_that_keeps_nothing_counts_all_the_same(rt: HostRuntime) {
     let alloc = rt.alloc();
     let seen = counters(alloc, 0).expect(&rt, "memory");
     let end = outcome(&rt, alloc, false, &[250; 4], &[250; 4], seen.as_slice());
-    assert!(&rt; matches!(end, Ok((1000, 0))), "it took 1000 steps and kept none");
+    assert!(&rt;
+        matches!(end, Ok((1000, 0))),
+        "it took 1000 steps and kept none"
+    );
     assert!(&rt; times_of(seen.as_slice(), 0) == 1000, "each answer is 0");
 }

@@ -16,8 +16,17 @@ pub record Meaning (M B S A : Type 0) : Type 1 where
   pub reply : B → History S A → S → A
   pub keeps : S → A → Bool
 
-abbrev pub meaning : {M B S A : Type 0} → (M → B) → (M → History S A) → (M → ℕ) → (S → ℕ) → (B → S → Type 0) → (B → History S A → S → A) → (S → A → Bool) → Meaning M B S A
-meaning base history spare lane fits reply keeps = record { base = base; history = history; spare = spare; lane = lane; fits = fits; reply = reply; keeps = keeps }
+abbrev pub meaning : {M B S A : Type 0} → (M → B) → (M → History S A) → (M → ℕ) → (S → ℕ) → (B → S → Type 0) → (B → History S A → S → A)
+    → (S → A → Bool) → Meaning M B S A
+meaning base history spare lane fits reply keeps = record {
+  base = base;
+  history = history;
+  spare = spare;
+  lane = lane;
+  fits = fits;
+  reply = reply;
+  keeps = keeps;
+}
 
 -- what a step with its answer adds to a history
 abbrev pub kept_of : {S A : Type 0} → (S → A → Bool) → S → A → History S A

@@ -12,4 +12,5 @@ pub returns-clause-left : goal.returns-clause-left
 returns-clause-left g c = left_behind _ _ _ _ c.requires.left c.requires.more c.split.ensures.kept
 
 pub returns-clause-seat : goal.returns-clause-seat
-returns-clause-seat g c = c.of_place.ensures.seat ∙ seat_cut _ _ _ _ _ c.requires.left c.split.ensures.given.1 (c.split.ensures.given.0 ∙ c.requires.ours)
+returns-clause-seat g c = c.of_place.ensures.seat ∙ seat_cut _ _ _ _ _ c.requires.left c.split.ensures.given.1
+    (c.split.ensures.given.0 ∙ c.requires.ours)

@@ -7,5 +7,6 @@ abbrev pub decreases-cut : goal.decreases-cut
 decreases-cut g l = l.count - l.lane
 
 abbrev pub invariant-cut : goal.invariant-cut
-invariant-cut g l = (l.place.table_id ≡ l.lanes.table.shared.table_id) × (l.lane < l.count) × IsLeft (lock_view l.lanes.table.shared) l.lane l.place.me
+invariant-cut g l = (l.place.table_id ≡ l.lanes.table.shared.table_id) × (l.lane < l.count)
+    × IsLeft (lock_view l.lanes.table.shared) l.lane l.place.me
     × (length l.seats.items ≡ l.lane) × AreFirst (lock_view l.lanes.table.shared) l.seats.items
