@@ -113,17 +113,6 @@ module _ {M B S A : Type 0} (t : Meaning M B S A) (q : Asked M S A) where
   few_own : (m : Sitter M S A) → IsAtRest t lane m → length (of_lane t.lane lane m.0.own) ≡ length m.0.own
   few_own m rest = ap (λ (z : History S A). length z) rest.own
 
-  pub may_apply : (m m1 : Sitter M S A) → IsAtRest t lane m → m.0.origin ≡ Some q.first → t.fits (t.base q.first) q.step
-      → length m.0.own < slice_index m.0.shares lane → HasTurn t m.0 m1
-      → (now : M) × (m1.1 ≡ holding now) × t.fits (t.base now) q.step × (0 < t.spare now)
-  may_apply m m1 rest told fits room turn = let first : turn.0 ≡ q.first = ap (origin_in q.first) (sym turn.2 ∙ told) in
-      let e = few_own m rest in (
-        turn.1,
-        ap (λ (x : Sitter M S A). x.1) turn.4,
-        subst (λ (z : B). t.fits z q.step) (sym (turn.3.base ∙ ap t.base first)) fits,
-        turn.3.room lane (has_one lane lane m.0.lanes rest.lanes refl) (omega arith),
-      )
-
   pub may_pass : (m m1 m2 : Sitter M S A) → IsActing t q m m1 m2 → CanPass t m2
   may_pass m m1 m2 a = let r = turned m m1 m2 a in let hand = r.hand in let did = r.did in let rest = a.rest in let room = a.room in
       subst (CanPass t) (sym r.is) record {

@@ -22,18 +22,6 @@ module _ {M S A : Type 0} (lock : LockView M) where
   abbrev keeps_from : ℕ → ℕ → Sitter M S A
   keeps_from lane n = (record (newcomer (opening_in lock)) { lanes = lanes_from lane n }, [])
 
-  left_from : (n : ℕ) → n ≡ length lock.shares → 0 < n → (m : Sitter M S A) → m ≡ (newcomer (opening_in lock), []) → IsLeft lock 0 m
-  left_from zero is some_lane m all = absurd (omega arith)
-  left_from (suc n) is some_lane m all = record {
-    more = n;
-    count = let g : 0 + suc n ≡ length lock.shares = omega arith in g;
-    left = all ∙ ap (λ (k : ℕ). keeps_from 0 k) (sym is);
-  }
-
-  -- at first all are left
-  pub left_at_first : 0 < length lock.shares → (m : Sitter M S A) → m ≡ (newcomer (opening_in lock), []) → IsLeft lock 0 m
-  left_at_first some_lane m all = left_from (length lock.shares) refl some_lane m all
-
   -- while lanes stand behind the first, it can be given away
   pub can_cut : (lane : ℕ) (m : Sitter M S A) → IsLeft lock lane m → lane + 1 < length lock.shares → CanSplit m.0
   can_cut lane m h less = subst (λ (z : Sitter M S A). CanSplit z.0) (sym h.left) record {
