@@ -1,0 +1,4 @@
+pub mod Rules
+pub mod Steps
+pub mod Seats
+pub mod Gathering
