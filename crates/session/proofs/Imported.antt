@@ -70,7 +70,7 @@ found_same tag (Some other) held found tag_is found_tag_is given stood image tol
     same_numbers image held found tag_is found_tag_is p q t u was now =
         let seals = same_some now.stands.seal was.stands.seal (sym now.stands.counts ∙ was.stands.counts) in (
           now.group_is ∙ ap (λ (x : Pool). x.group) now.stands.pool_is ∙ ap (λ (seal : Seal). seal.group) seals
-          ∙ sym (was.group_is ∙ ap (λ (x : Pool). x.group) was.stands.pool_is),
+              ∙ sym (was.group_is ∙ ap (λ (x : Pool). x.group) was.stands.pool_is),
           now.sectors_are ∙ ap (λ (seal : Seal). seal.sectors) seals ∙ sym was.sectors_are,
         )
 

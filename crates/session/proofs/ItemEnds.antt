@@ -128,14 +128,20 @@ module _ (devices : Devices) (keying : Keying) (s : Standing) (moment : ℕ) (ta
       → ItemWent devices rules s (of_group item) (told ∷ []) held sealed result
   group_went number before (Ok done) (Ok written) went tag_is number_is before_is device tells =
       (group_step s item told went.after, refl, refl, group_done went tag_is (tells.0 ∙ number_is) tells.1.all)
-  group_went number before (Ok done) (Err status) went tag_is number_is before_is device tells =
-      (group_step s item told went.after, refl, refl,
-      subst (ItemCut devices rules s (group_step s item told went.after) sealed) (sym (tells.2 status refl))
-      (group_untold went tag_is (tells.0 ∙ number_is) tells.1.front))
+  group_went number before (Ok done) (Err status) went tag_is number_is before_is device tells = (
+    group_step s item told went.after,
+    refl,
+    refl,
+    subst (ItemCut devices rules s (group_step s item told went.after) sealed) (sym (tells.2 status refl))
+        (group_untold went tag_is (tells.0 ∙ number_is) tells.1.front),
+  )
   group_went number before (Err status) result went tag_is number_is before_is device tells =
-      subst (λ (r : Result Unit Status). ItemWent devices rules s (of_group item) (told ∷ []) held sealed r) (sym tells.2)
-      (group_step s item told went.after, refl, refl,
-      group_cut status went (λ same. device (ap Err same)) (kept devices.written devices.now tells.1) (tells.0 ∙ before_is))
+      subst (λ (r : Result Unit Status). ItemWent devices rules s (of_group item) (told ∷ []) held sealed r) (sym tells.2) (
+        group_step s item told went.after,
+        refl,
+        refl,
+        group_cut status went (λ same. device (ap Err same)) (kept devices.written devices.now tells.1) (tells.0 ∙ before_is),
+      )
 
 -- ---- An item that is no group
 
@@ -174,38 +180,53 @@ module _ (devices : Devices) (rules : Rules) (s : Standing) (held : Held) (seale
     -- it was done
     pub plain_done : IsOver devices.after held s → Appends devices.written devices.now (item_text part None s.pool)
         → ItemWent devices rules s part [] held sealed (Ok tt)
-    plain_done over text = (plain_step part, refl, refl, record {
-      begins = refl;
-      ended = plain_ended part is;
-      over = over;
-      sealed_is = sealed_is;
-      modes = refl;
-      text = text;
-      others = λ all among content apart. apart;
-      crash = crash_here;
-    })
+    plain_done over text = (
+      plain_step part,
+      refl,
+      refl,
+      record {
+        begins = refl;
+        ended = plain_ended part is;
+        over = over;
+        sealed_is = sealed_is;
+        modes = refl;
+        text = text;
+        others = λ all among content apart. apart;
+        crash = crash_here;
+      },
+    )
 
     -- its text wasn't written whole
     pub plain_untold : ((c : Image) → devices.after.may_leave c → Holds rules.keying.tag c s)
         → TookFront devices.written devices.now (item_text part None s.pool) → ItemWent devices rules s part [] held sealed (Err SinkFault)
-    plain_untold holds front = (plain_step part, refl, refl, record {
-      begins = refl;
-      ends = (plain_ended part is, front);
-      sealed_is = sealed_is;
-      crash = crash_here;
-      at_return = λ c left. inl (sym sealed_is, inl (holds c left));
-    })
+    plain_untold holds front = (
+      plain_step part,
+      refl,
+      refl,
+      record {
+        begins = refl;
+        ends = (plain_ended part is, front);
+        sealed_is = sealed_is;
+        crash = crash_here;
+        at_return = λ c left. inl (sym sealed_is, inl (holds c left));
+      },
+    )
 
     -- the session ended before its text
     pub plain_stopped : (status : Status) → (status ≡ SinkFault → ⊥) → ((c : Image) → devices.after.may_leave c → Holds rules.keying.tag c s)
         → Keeps devices.written devices.now → ItemWent devices rules s part [] held sealed (Err status)
-    plain_stopped status other holds unwritten = (plain_step part, refl, refl, record {
-      begins = refl;
-      ends = ends_cut devices rules (plain_step part) status other (plain_cut part is) unwritten;
-      sealed_is = sealed_is;
-      crash = crash_here;
-      at_return = λ c left. inl (sym sealed_is, inl (holds c left));
-    })
+    plain_stopped status other holds unwritten = (
+      plain_step part,
+      refl,
+      refl,
+      record {
+        begins = refl;
+        ends = ends_cut devices rules (plain_step part) status other (plain_cut part is) unwritten;
+        sealed_is = sealed_is;
+        crash = crash_here;
+        at_return = λ c left. inl (sym sealed_is, inl (holds c left));
+      },
+    )
 
     -- by what was written
     pub told_went : (result : Result Unit Status) (wrote : Result Unit Failed) (text : List ℕ) → result ≡ ended_by wrote

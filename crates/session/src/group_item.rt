@@ -26,9 +26,7 @@ use ddt_entry::KeyOf;
 use disk_model::{Disk, Failed, crash_laws};
 use io_model::Sink;
 use lane_run::run_group_plain;
-use pool_model::{
-    Closed, GroupFault, GroupNote, Item, Kind, LanesGroup, Outcome, Session,
-};
+use pool_model::{Closed, GroupFault, GroupNote, Item, Kind, LanesGroup, Outcome, Session};
 use report::{NO_STATS, write_item};
 use reserved_list::ReservedList;
 use std::alloc::Global;
