@@ -23,8 +23,6 @@ mod fault;
 mod grammar;
 mod laws;
 mod progress;
-#[cfg(test)]
-mod tests;
 mod words;
 
 use crate::grammar::{FILE_LIMIT, parse};

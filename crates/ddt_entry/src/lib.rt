@@ -23,8 +23,6 @@ pub mod fields;
 mod key;
 mod record;
 mod sha256_key;
-#[cfg(test)]
-mod tests;
 mod weak_key;
 
 pub use entry::{Change, Entry, Home, Pointer, SlotKind, key_of};

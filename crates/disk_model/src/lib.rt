@@ -28,6 +28,3 @@ pub use disk::{Disk, Failed, SECTOR_BYTES, crash_laws};
 pub use fault_plan::{FaultPlan, ReadSpan};
 pub use mem_disk::MemDisk;
 pub use mem_meter::MemMeter;
-
-#[cfg(test)]
-mod tests;

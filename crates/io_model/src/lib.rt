@@ -29,6 +29,3 @@ pub use sink::{Sink, write_whole};
 pub use source::{ReadFault, Source, read_whole};
 pub use std_sink::StdSink;
 pub use std_source::StdSource;
-
-#[cfg(test)]
-mod tests;

@@ -21,17 +21,11 @@
 
 mod chain;
 mod chain_page;
-#[cfg(test)]
-mod chain_tests;
 mod chain_walk;
 mod fault;
 pub mod front;
 mod pointer;
 mod reader;
-#[cfg(test)]
-mod reader_tests;
-#[cfg(test)]
-mod tests;
 
 pub use chain::{chain_is_read_back, write_chain};
 pub use chain_page::{PAGE_RECORDS, chain_page_is_read_back};

@@ -11,8 +11,6 @@
 
 mod counts;
 mod reference;
-#[cfg(test)]
-mod tests;
 mod totals;
 
 pub use reference::{Reference, Standing};

@@ -19,6 +19,3 @@ mod words;
 
 pub use item::{text_is_of_pool, write_item};
 pub use stat::NO_STATS;
-
-#[cfg(test)]
-mod tests;

@@ -21,12 +21,8 @@ mod laws;
 mod pool;
 mod room;
 mod seal_form;
-#[cfg(test)]
-mod seal_form_tests;
 mod setting;
 mod slot_record;
-#[cfg(test)]
-mod slot_record_tests;
 
 pub use block::sector_of;
 pub use laws::{

@@ -16,11 +16,7 @@ mod body;
 mod gate;
 mod laws;
 mod ring;
-#[cfg(test)]
-mod ring_tests;
 mod seal;
-#[cfg(test)]
-mod tests;
 
 pub use body::{body_is_spelled_again, seal_is_read_back};
 pub use gate::gates_are_told_apart;

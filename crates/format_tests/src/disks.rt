@@ -1,4 +1,4 @@
-use crate::{Disk, Failed, MemDisk};
+use disk_model::{Disk, Failed, MemDisk};
 use std::alloc::Global;
 use std::process::Abort;
 use std::test::Fail;

@@ -1,5 +1,5 @@
-use crate::{byte_of, is_formed, mode_of, new_seal};
 use pool_model::Mode;
+use table_state::{byte_of, is_formed, mode_of, new_seal};
 use uber_ring::Seal;
 
 /// The first lane verifies.

@@ -1,5 +1,5 @@
-use crate::{PageFault, PagePtr, RecordList, SectorList, read_chain, write_chain};
 use disk_model::{Disk, Failed, MemDisk};
+use page_tree::{PageFault, PagePtr, RecordList, SectorList, read_chain, write_chain};
 use std::alloc::Global;
 use std::process::Abort;
 use std::test::Fail;

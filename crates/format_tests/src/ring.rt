@@ -1,9 +1,9 @@
-use crate::body::body_of;
-use crate::{Seal, close_slot, find, gate_open, open_slot, write_body};
+use crate::bodies::{put, written_body};
 use disk_model::{Disk, Failed, MemDisk};
 use page_tree::PagePtr;
 use std::process::Abort;
 use std::test::Fail;
+use uber_ring::{Seal, close_slot, find, gate_open, open_slot, write_body};
 
 /// A seal of this group, whose other fields don't matter.
 fn seal_of_group(group: u64) -> Seal {
@@ -34,12 +34,6 @@ fn seal<D: Disk>(rt: &impl Abort, disk: &mut D, group: u64) -> Result<(), Failed
     write_body(disk, &seal_of_group(group))?;
     disk.barrier()?;
     open(rt, disk, (group % 16) as u32)
-}
-
-/// Writes a sector that the disk has.
-fn put<D: Disk>(rt: &impl Abort, disk: &mut D, at: u64, bytes: &[u8; 4096]) -> Result<(), Failed> {
-    assert!(rt; at < disk.sectors());
-    disk.write(at, bytes)
 }
 
 /// Opens a slot of a disk that has the ring.
@@ -106,10 +100,11 @@ fn what_is_no_valid_seal_does_not_count(rt: HostRuntime) -> Result<(), Fail> {
     let mut disk = MemDisk::new(rt.alloc(), 2048)?;
     seal(&rt, &mut disk, 1)?;
 
+    let five = written_body(&rt, rt.alloc(), &seal_of_group(5))?;
     // A body of group 5 in the slot of group 4, and the same group in its own slot, but behind a closed gate.
-    put(&rt, &mut disk, 9, &body_of(&seal_of_group(5)))?;
+    put(&rt, &mut disk, 9, &five)?;
     open(&rt, &mut disk, 4)?;
-    put(&rt, &mut disk, 11, &body_of(&seal_of_group(5)))?;
+    put(&rt, &mut disk, 11, &five)?;
     assert_eq!(rt;
         newest_group(&mut disk)?,
         1,
@@ -122,7 +117,7 @@ fn what_is_no_valid_seal_does_not_count(rt: HostRuntime) -> Result<(), Fail> {
         "the group in its own slot, beside its copy in another"
     );
 
-    let mut wrong = body_of(&seal_of_group(6));
+    let mut wrong = written_body(&rt, rt.alloc(), &seal_of_group(6))?;
     wrong[400] = 1;
     put(&rt, &mut disk, 13, &wrong)?;
     open(&rt, &mut disk, 6)?;
@@ -130,7 +125,7 @@ fn what_is_no_valid_seal_does_not_count(rt: HostRuntime) -> Result<(), Fail> {
 
     let mut later = seal_of_group(7);
     later.version = 1;
-    put(&rt, &mut disk, 15, &body_of(&later))?;
+    put(&rt, &mut disk, 15, &written_body(&rt, rt.alloc(), &later)?)?;
     open(&rt, &mut disk, 7)?;
     assert_eq!(rt;
         newest_group(&mut disk)?,

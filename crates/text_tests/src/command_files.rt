@@ -1,6 +1,6 @@
 ghost use Rattle.std.specs.Prelude.{◌<◌};
 
-use crate::*;
+use cmd_file::*;
 use io_model::MemSource;
 use pool_model::{Command, Item, Payload, Verb};
 use std::alloc::{AllocError, Global};

@@ -1,6 +1,6 @@
-use crate::{SLOT_RECORD_BYTES, SlotRecord, read_slot, write_slot};
 use ddt_entry::{Key, Pointer, SlotKind};
 use std::process::Abort;
+use table_state::{SLOT_RECORD_BYTES, SlotRecord, read_slot, write_slot};
 
 /// The bytes 1 to 32.
 const DIGEST: [u8; 32] = [

@@ -1,6 +1,6 @@
-use crate::front::{full_array, pad_to, put};
-use crate::{FindFault, PageFault, PagePtr};
 use arrayvec::ArrayVec;
+use page_tree::front::{full_array, pad_to, put};
+use page_tree::{FindFault, PageFault, PagePtr};
 use std::alloc::AllocError;
 
 #[test]

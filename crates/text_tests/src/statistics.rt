@@ -1,6 +1,6 @@
-use crate::{Reference, Standing, stats};
 use ddt_entry::Key;
 use pool_model::{BUCKETS, Bucket, Stats};
+use pool_stats::{Reference, Standing, stats};
 use std::alloc::Global;
 use std::process::Abort;
 use std::test::Fail;

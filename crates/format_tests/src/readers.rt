@@ -1,5 +1,5 @@
-use crate::{FindFault, PagePtr, PageReader, PlainReader};
 use disk_model::{Disk, MemDisk};
+use page_tree::{FindFault, PagePtr, PageReader, PlainReader};
 use sha2::{Digest, Sha256};
 use std::process::Abort;
 use std::test::Fail;

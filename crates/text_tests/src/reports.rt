@@ -1,9 +1,9 @@
-use crate::{NO_STATS, write_item};
 use io_model::{Failed, MemSink};
 use pool_model::{
     BUCKETS, Bucket, Command, CommandAnswer, FreeAnswer, GroupNote, Item, Kind, LaneNote,
     LanesGroup, Mode, Outcome, Payload, PruneRule, ReadAnswer, Stats, Verb, WriteAnswer,
 };
+use report::{NO_STATS, write_item};
 use reserved_list::ReservedList;
 use std::alloc::{AllocError, Global};
 use std::test::Fail;

@@ -1,5 +1,5 @@
-use crate::fields::{array_at, u32_at, u64_at};
-use crate::{
+use ddt_entry::fields::{array_at, u32_at, u64_at};
+use ddt_entry::{
     Change, Entry, Home, Key, KeyOf, MAX_BLOCK_BYTES, Malformed, RECORD_BYTES, Sha256Key, WeakKey,
     key_of, read_change, write_change,
 };
