@@ -1,8 +1,8 @@
 ghost use Rattle.std.specs.Prelude.{◌<◌};
 
-use cmd_file::*;
+use cmd_file::{FileFault, read_file};
 use io_model::MemSource;
-use pool_model::{Command, Item, Payload, Verb};
+use pool_model::{Command, CommandFile, Item, Payload, Verb};
 use std::alloc::{AllocError, Global};
 use std::test::Fail;
 
