@@ -15,7 +15,8 @@ use Rattle.pool_import.specs.Judged.{counts_hold, pages_used, sectors_taken, jud
 use Rattle.pool_import.specs.Marks.{spot_of, spot_among, sums_agree, is_counted, are_owned, taken, places_of, places_in, is_clear}
 use Rattle.pool_import.specs.Whole.{IsWhole}
 use Rattle.pool_import.specs.declared.marks.Spot.{Spot}
-use Rattle.pool_import.proofs.JudgingFound.{IsBefore, rising_found}
+use Rattle.pool_model.proofs.Finding.{rising_found}
+use Rattle.pool_import.proofs.JudgingFound.{IsBefore}
 use Rattle.pool_import.proofs.JudgingKeys.{spots_among}
 use Rattle.pool_import.proofs.JudgingWhole.{Grounds, Passed, whole_if, passed_if}
 

@@ -20,7 +20,8 @@ use Rattle.pool_model.proofs.Lists.{all_filter, all_from, all_from_both, all_tes
 use Rattle.pool_import.specs.Marks.{spot_in, counts_for, is_counted}
 use Rattle.pool_import.specs.declared.marks.Spot.{Spot}
 use Rattle.pool_import.proofs.JudgingLists.{every_unfilter, none_passes, list_all-each, each-list_all}
-use Rattle.pool_import.proofs.JudgingFound.{found-is, rising_found, each_found, of_found}
+use Rattle.pool_model.proofs.Finding.{found-is, rising_found}
+use Rattle.pool_import.proofs.JudgingFound.{each_found, of_found}
 
 -- ---- Pointers as the table knows them
 

@@ -22,7 +22,8 @@ use Rattle.pool_model.proofs.TablePuts.{apart_by_order}
 use Rattle.pool_import.specs.Marks.{counts_for, spot_among, spot_of}
 use Rattle.pool_import.specs.declared.marks.Spot.{Spot}
 use Rattle.pool_import.proofs.JudgingLists.{every_at, every_push}
-use Rattle.pool_import.proofs.JudgingFound.{IsBefore, earlier_yet, found-is}
+use Rattle.pool_model.proofs.Finding.{found-is}
+use Rattle.pool_import.proofs.JudgingFound.{IsBefore, earlier_yet}
 
 -- what holds of each holds of the one at a place
 every_get : {X : Type 0} (P : X → Type 0) (xs : List X) (i : ℕ) (d : X) → AllByRecursion P xs → i < length xs → P (get_or xs i d)

@@ -2,7 +2,7 @@
 use Rattle.std.proofs.Common.{◌≡◌, ℕ, ◌<◌, Bool, true, false, ◌||◌, ◌==◌, List, [], ◌∷◌, length, get_or, set, Some, None, refl, sym, ap, ◌∙◌, arith}
 use Rattle.std.specs.Prelude.{slice_set, if◌then◌else◌}
 use Rattle.std.specs.List.{AllByRecursion}
-use Rattle.std.proofs.lemmas.Bool.{false≢true}
+use Rattle.std.proofs.lemmas.Bool.{or_parts}
 use Rattle.std.proofs.lemmas.List.{length-set}
 use Rattle.pool_model.specs.Pool.{Pairwise}
 use Rattle.grant_book.specs.Sectors.{marked}
@@ -43,14 +43,9 @@ in_set used place places within = all_from (IsIn used) (IsIn (set used place tru
 still_free : (used : List Bool) (place q : ℕ) → IsIn used q → IsFree used q → Differ place q → IsFree (set used place true) q
 still_free used place q within free differ = set_used used place q within ∙ ap (λ b. b || (place == q)) free ∙ differ
 
--- two tests that fail
-pub or_none : (a b : Bool) → (a || b) ≡ false → (a ≡ false) × (b ≡ false)
-or_none true b none = absurd (false≢true (sym none))
-or_none false b none = (refl, none)
-
 -- what is free after that was free, and is another
 was_free : (used : List Bool) (place q : ℕ) → IsIn used q → IsFree (set used place true) q → IsFree used q × Differ place q
-was_free used place q within free = or_none (get_or used q false) (place == q) (sym (set_used used place q within) ∙ free)
+was_free used place q within free = or_parts (get_or used q false) (place == q) (sym (set_used used place q within) ∙ free)
 
 -- where each is free and no two are one, all are taken
 pub taken_if_free : (places : List ℕ) (used : List Bool) → AllByRecursion (IsIn used) places → AllByRecursion (IsFree used) places → Pairwise Differ places → taken used places ≡ Some (marked used places)

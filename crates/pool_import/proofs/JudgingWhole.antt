@@ -2,7 +2,7 @@
 use Rattle.std.proofs.Common.{◌≡◌, ℕ, ◌<◌, ◌≤◌, Bool, true, false, not, ◌||◌, ◌==◌, List, [], ◌∷◌, length, get_or, map, replicate, Some, refl, sym, ap, subst, ◌∙◌, arith, eq-eqb}
 use Rattle.std.specs.Prelude.{nat_lt, sum_by}
 use Rattle.std.specs.List.{AllByRecursion, list_any, list_all}
-use Rattle.std.proofs.lemmas.Bool.{false≢true}
+use Rattle.std.proofs.lemmas.Bool.{false≢true, or_parts}
 use Rattle.std.proofs.lemmas.Bool.Decides.{nat_tests}
 use Rattle.std.proofs.lemmas.List.{length-map}
 use Rattle.ddt_entry.specs.Records.{IsKeyLength}
@@ -20,6 +20,7 @@ use Rattle.table_state.specs.SlotRecords.{is_slot}
 use Rattle.table_state.specs.Sound.{HasLength}
 use Rattle.table_state.specs.Tables.{IsTableWithin}
 use Rattle.table_state.specs.declared.slot_record.SlotRecord.{SlotRecord}
+use Rattle.table_state.proofs.UnusedOf.{each_fails}
 use Rattle.table_state.proofs.UsedLaws.{one_sector, used_is}
 use Rattle.pool_model.proofs.Lists.{all_filter, all_from, all_from_both}
 use Rattle.pool_import.specs.Lengths.{HasLengths}
@@ -31,21 +32,12 @@ use Rattle.pool_import.proofs.JudgingLists.{every_map, every_unmap, pairs_map, p
 use Rattle.pool_import.proofs.JudgingFound.{every_found}
 use Rattle.pool_import.proofs.JudgingHomes.{IsKnown, known_of, homes_if_counted, counted_if_homes}
 use Rattle.pool_import.proofs.JudgingPairs.{apart_if, differ_if, ranged_of, within_of, IsInOrder, slots_differ, together_if_apart, apart_if_together}
-use Rattle.pool_import.proofs.JudgingUsed.{or_none, taken_if_free, WasTaken, free_if_taken}
+use Rattle.pool_import.proofs.JudgingUsed.{taken_if_free, WasTaken, free_if_taken}
 use Rattle.pool_import.proofs.JudgingOwners.{apart_if_owned, owned_if_apart}
 
 -- ---- Lists
 
--- where no element passes, none does
-any_none : {X : Type 0} (test : X → Bool) (xs : List X) → list_any test xs ≡ false → AllByRecursion (λ x. test x ≡ false) xs
-any_none test [] none = tt
-any_none test (x ∷ xs) none = by_test (test x) refl none (λ rest. any_none test xs rest)
-  where
-    by_test : (b : Bool) → test x ≡ b → (b || list_any test xs) ≡ false → (list_any test xs ≡ false → AllByRecursion (λ x. test x ≡ false) xs) → (test x ≡ false) × AllByRecursion (λ x. test x ≡ false) xs
-    by_test true is some again = absurd (false≢true (sym some))
-    by_test false is rest again = (is, again rest)
-
--- and back
+-- where each fails, none passes
 none_any : {X : Type 0} (test : X → Bool) (xs : List X) → AllByRecursion (λ x. test x ≡ false) xs → list_any test xs ≡ false
 none_any test [] each = refl
 none_any test (x ∷ xs) each = ap (λ b. b || list_any test xs) each.0 ∙ none_any test xs each.1
@@ -198,7 +190,7 @@ module _ (seal : Seal) (flat : Flat) (grounds : Grounds seal flat) where
     clear_if : list_all (is_clear on_pages) spots ≡ true → AllByRecursion (λ (p : Pointer). IsClear flat.named p.place) pool.pointers
     clear_if passed =
         all_from_both (IsInOrder table seal.sectors seal.group) (λ (p : Pointer). is_clear on_pages (spot_in p) ≡ true) (λ (p : Pointer). IsClear flat.named p.place)
-        (λ p is clear. (or_none (nat_lt p.place 32) (list_any (λ page. page == p.place) flat.named) (sym (pages-at p.place is.ranged.on_disk) ∙ unnot (get_or on_pages p.place false) clear)).1)
+        (λ p is clear. (or_parts (nat_lt p.place 32) (list_any (λ page. page == p.place) flat.named) (sym (pages-at p.place is.ranged.on_disk) ∙ unnot (get_or on_pages p.place false) clear)).1)
         pool.pointers sound (of_pointers (λ spot. is_clear on_pages spot ≡ true) (list_all-each (is_clear on_pages) spots passed))
 
     clear_then : AllByRecursion (λ (p : Pointer). IsClear flat.named p.place) pool.pointers → list_all (is_clear on_pages) spots ≡ true
@@ -218,14 +210,14 @@ module _ (seal : Seal) (flat : Flat) (grounds : Grounds seal flat) where
 
     alone_if : (e : Entry) → IsRoomed seal.sectors e → get_or with_spots e.home.place false ≡ false → IsAlone e
     alone_if e roomed free =
-        let parts = or_none (nat_lt e.home.place 32 || list_any (λ page. page == e.home.place) flat.named) (list_any (λ place. place == e.home.place) (places_of spots)) (sym (spots-at e.home.place roomed.on_disk) ∙ free) in
+        let parts = or_parts (nat_lt e.home.place 32 || list_any (λ page. page == e.home.place) flat.named) (list_any (λ place. place == e.home.place) (places_of spots)) (sym (spots-at e.home.place roomed.on_disk) ∙ free) in
         record {
-          page = (or_none (nat_lt e.home.place 32) (list_any (λ page. page == e.home.place) flat.named) parts.0).1;
+          page = (or_parts (nat_lt e.home.place 32) (list_any (λ page. page == e.home.place) flat.named) parts.0).1;
           pointers = all_from_both (IsInOrder table seal.sectors seal.group) (λ (p : Pointer). (p.place == e.home.place) ≡ false) (IsApartFrom e)
               (λ p is differ. apart_if e.home.place p.place (run_length e.key) (run_length p.key) roomed.run is.ranged.run (λ same. false≢true (sym differ ∙ eq-eqb p.place e.home.place (sym same))))
               pool.pointers sound
               (of_pointers (λ spot. (spot.place == e.home.place) ≡ false)
-              (every_unmap (λ place. (place == e.home.place) ≡ false) (λ (spot : Spot). spot.place) spots (any_none (λ place. place == e.home.place) (places_of spots) parts.1)));
+              (every_unmap (λ place. (place == e.home.place) ≡ false) (λ (spot : Spot). spot.place) spots (each_fails (λ place. place == e.home.place) (places_of spots) parts.1)));
         }
 
     alone_then : (e : Entry) → IsRoomed seal.sectors e → IsAlone e → get_or with_spots e.home.place false ≡ false

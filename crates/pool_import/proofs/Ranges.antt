@@ -21,13 +21,10 @@ use Rattle.table_state.specs.declared.slot_record.SlotRecord.{SlotRecord}
 all_spelled : {X Y : Type 0} (f : List ℕ → Y) (g : X → Y) (P : X → Type 0) → ((r : List ℕ) (x : X) → f r ≡ g x → P x) → (rs : List (List ℕ)) (xs : List X) → map f rs ≡ map g xs → AllByRecursion P xs
 all_spelled f g P each rs [] same = tt
 all_spelled f g P each [] (x ∷ xs) same = absurd (cc same)
-all_spelled f g P each (r ∷ rs) (x ∷ xs) same = (each r x (head_of same), all_spelled f g P each rs xs (tail_of same))
-  where
-    head_of : f r ∷ map f rs ≡ g x ∷ map g xs → f r ≡ g x
-    head_of e = ap (λ l. get_or l 0 (f r)) e
-
-    tail_of : f r ∷ map f rs ≡ g x ∷ map g xs → map f rs ≡ map g xs
-    tail_of e = ap (λ l. drop 1 l) e
+all_spelled f g P each (r ∷ rs) (x ∷ xs) same =
+    let here : f r ≡ g x = cc same in
+    let rest : map f rs ≡ map g xs = cc same in
+    (each r x here, all_spelled f g P each rs xs rest)
 
 -- a record that was taken is in its ranges
 taken : (sectors group : ℕ) (b : Bool) (found slot : SlotRecord) → is_slot sectors group found ≡ b → cond b (Some found) None ≡ Some slot → is_slot sectors group slot ≡ true

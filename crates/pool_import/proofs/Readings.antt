@@ -12,13 +12,9 @@ spelled_right : {X Y : Type 0} (f : List ℕ → Y) (g : X → Y) (bad : Y → B
 spelled_right f g bad right [] xs same = refl
 spelled_right f g bad right (r ∷ rs) [] same = absurd (cc same)
 spelled_right f g bad right (r ∷ rs) (x ∷ xs) same =
-    ap (λ b. b || list_any (λ r. bad (f r)) rs) (ap bad (head_of same) ∙ right x) ∙ spelled_right f g bad right rs xs (tail_of same)
-  where
-    head_of : f r ∷ map f rs ≡ g x ∷ map g xs → f r ≡ g x
-    head_of e = ap (λ l. get_or l 0 (f r)) e
-
-    tail_of : f r ∷ map f rs ≡ g x ∷ map g xs → map f rs ≡ map g xs
-    tail_of e = ap (λ l. drop 1 l) e
+    let here : f r ≡ g x = cc same in
+    let rest : map f rs ≡ map g xs = cc same in
+    ap (λ b. b || list_any (λ r. bad (f r)) rs) (ap bad here ∙ right x) ∙ spelled_right f g bad right rs xs rest
 
 -- so a chain with a record that is wrong spells no list
 pub no_reading : {X Y : Type 0} (f : List ℕ → Y) (g : X → Y) (bad : Y → Bool) → ((x : X) → bad (g x) ≡ false) → (told : Option Image) (before : List ℕ) (root : Option PagePtr) (after : List ℕ) (records : List (List ℕ))

@@ -18,6 +18,7 @@ use Rattle.pool_model.specs.Pool.{Pairwise}
 use Rattle.pool_model.specs.Table.{entry_at, AreRising}
 use Rattle.table_state.specs.Flat.{Flat, IsWithin, IsChangeWithin, HoldTogether, stands_before}
 use Rattle.table_state.specs.declared.slot_record.SlotRecord.{SlotRecord}
+use Rattle.pool_import.proofs.JudgingFound.{earlier_yet}
 use Rattle.pool_import.specs.Together.{is_within, is_change_within, rises, has_lower_key, is_elsewhere, are_within, are_sorted, are_classes, are_counted, hold_together}
 
 -- a test of each item
@@ -72,13 +73,8 @@ slots_onward a b c one other = numbers a.lane a.slot b.lane b.slot c.lane c.slot
     numbers : (lane slot lane' slot' lane'' slot'' : ℕ) → (nat_lt lane lane' || ((lane == lane') && nat_lt slot slot')) ≡ true → (nat_lt lane' lane'' || ((lane' == lane'') && nat_lt slot' slot'')) ≡ true → (nat_lt lane lane'' || ((lane == lane'') && nat_lt slot slot'')) ≡ true
     numbers lane slot lane' slot' lane'' slot'' one other = grind (arith, nat_tests)
 
-less : (o : Ordering) → is_lt o ≡ true → o ≡ Less
-less Less h = refl
-less Equal h = absurd (cc h)
-less Greater h = absurd (cc h)
-
 keys_onward : (a b c : Entry) → has_lower_key a b ≡ true → has_lower_key b c ≡ true → has_lower_key a c ≡ true
-keys_onward a b c one other = ap is_lt (key_cmp_total.trans a.key b.key c.key (less (key_cmp a.key b.key) one) (less (key_cmp b.key c.key) other))
+keys_onward a b c one other = earlier_yet a.key b.key c.key one other
 
 -- ---- The rules
 

@@ -1,25 +1,21 @@
 -- Why a session ends where its pool is opened, or told of: by why none was found, or made.
-use Rattle.std.proofs.Common.{◌≡◌, ◌≤◌, ◌+◌, ◌-◌, ◌^◌, ℕ, true, min, Option, Some, None, Err, refl, subst, arith}
+use Rattle.std.proofs.Common.{◌≡◌, ◌≤◌, ◌+◌, ◌-◌, ◌^◌, ℕ, min, Option, Some, None, Err, refl, subst, arith}
 use Rattle.std.specs.Prelude.{IsErrOf, IfSome}
 use Rattle.io_model.specs.Outside.{Rose}
 use Rattle.disk_model.specs.Images.{Image}
 use Rattle.disk_model.specs.Crashes.{DiskState}
 use Rattle.table_state.specs.Flat.{HasNoPool, IsDamaged}
-use Rattle.session.specs.Devices.{Devices, between}
 use Rattle.session.specs.Entries.{IsLawfulSize}
-use Rattle.session.specs.Looking.{LookCause}
-use Rattle.session.specs.Origins.{origin}
 use Rattle.session.specs.StageFinding.{FindCause}
 use Rattle.session.specs.StageMaking.{MakeCause}
-use Rattle.session.specs.StageOpening.{may_end_opening}
-use Rattle.session.specs.Running.{RoseBeyond, HasCauseFor, SizedSo, imported_by}
+use Rattle.session.specs.StageOpening.{EndsOpening}
+use Rattle.session.specs.Running.{HasNewest, RoseBeyond, SizedSo}
 use Rattle.session.specs.declared.status.Status.{Status}
 use Rattle.session.specs.declared.status.Status.TheVariants.{Done, Usage, BadFile, SourceFault, SinkFault, ReadFault, WriteFault, NoPool, Damaged, OutOfMemory, PoolExists, BadSize, LastGroup}
 use Rattle.session.specs.declared.words.Word.TheVariants.{Run, Make}
-use Rattle.session.specs.declared.words.Look.TheVariants.{Create, Stat}
 
 -- where no lane had a fault the count rose by one
-pub rose_by_one : (before now : ℕ) → Rose before now → RoseBeyond 0 before now
+rose_by_one : (before now : ℕ) → Rose before now → RoseBeyond 0 before now
 rose_by_one before now rose = subst (λ n. min (n + 1) (2 ^ 64 - 1) ≤ now) (nothing_more before) rose
   where
     nothing_more : (n : ℕ) → n ≡ n + 0
@@ -33,7 +29,7 @@ of_status P told status is holds = subst P same holds
     same = cc is
 
 -- more is said of what is told, or it is said of whatever is told
-pub if_told : (P Q : Image → Type 0) (seen : Option Image) → ((image : Image) → P image → Q image) → IfSome seen P → IfSome seen Q
+if_told : (P Q : Image → Type 0) (seen : Option Image) → ((image : Image) → P image → Q image) → IfSome seen P → IfSome seen Q
 if_told P Q None from is = tt
 if_told P Q (Some image) from is = from image is
 
@@ -41,119 +37,93 @@ pub when_told : (P : Image → Type 0) (seen : Option Image) → ((image : Image
 when_told P None from = tt
 when_told P (Some image) from = from image refl
 
-module _ (tag : ℕ) (old new : DiskState) where
-  -- the pool of a session was not found
-  pub run_cause : (status : Status) → FindCause status tag old new → HasCauseFor status Run tag (between old new None None 0 0) 0
-  run_cause ReadFault cause = rose_by_one old.read_faults new.read_faults cause
-  run_cause WriteFault cause = cause
-  run_cause OutOfMemory cause = tt
-  run_cause NoPool cause = if_told HasNoPool (λ image. (Run ≡ Run) × HasNoPool image) old.seen (λ image none. (refl, none)) cause
-  run_cause (Damaged sector) cause =
-      if_told (IsDamaged tag) (λ image. (Run ≡ Run) × IsDamaged tag image) old.seen (λ image damaged. (refl, damaged)) cause
-  run_cause Done cause = absurd cause
-  run_cause Usage cause = absurd cause
-  run_cause (BadFile line kind) cause = absurd cause
-  run_cause SourceFault cause = absurd cause
-  run_cause SinkFault cause = absurd cause
-  run_cause (PoolExists group) cause = absurd cause
-  run_cause (BadSize n) cause = absurd cause
-  run_cause (LastGroup group) cause = absurd cause
+-- ---- A pool that was not found
 
-  -- a pool that was not found ends the session so, and none was imported
-  pub find_ends : (status : Status) → FindCause status tag old new → (may_end_opening (origin status) ≡ true) × (imported_by status ≡ 0)
-  find_ends ReadFault cause = (refl, refl)
-  find_ends WriteFault cause = (refl, refl)
-  find_ends OutOfMemory cause = (refl, refl)
-  find_ends NoPool cause = (refl, refl)
-  find_ends (Damaged sector) cause = (refl, refl)
-  find_ends Done cause = absurd cause
-  find_ends Usage cause = absurd cause
-  find_ends (BadFile line kind) cause = absurd cause
-  find_ends SourceFault cause = absurd cause
-  find_ends SinkFault cause = absurd cause
-  find_ends (PoolExists group) cause = absurd cause
-  find_ends (BadSize n) cause = absurd cause
-  find_ends (LastGroup group) cause = absurd cause
+module _ (tag : ℕ) (old new : DiskState) where
+  -- what holds of each status that comes then
+  pub record WhereUnfound (P : Status → Type 0) : Type 0 where
+    pub unread : Rose old.read_faults new.read_faults → P ReadFault
+    pub unwritten : Rose old.write_faults new.write_faults → P WriteFault
+    pub memory : P OutOfMemory
+    pub none : IfSome old.seen HasNoPool → P NoPool
+    pub damaged : (sector : ℕ) → IfSome old.seen (IsDamaged tag) → P (Damaged sector)
+
+  pub unfound : (P : Status → Type 0) → WhereUnfound P → (status : Status) → FindCause status tag old new → P status
+  unfound P holds ReadFault cause = holds.unread cause
+  unfound P holds WriteFault cause = holds.unwritten cause
+  unfound P holds OutOfMemory cause = holds.memory
+  unfound P holds NoPool cause = holds.none cause
+  unfound P holds (Damaged sector) cause = holds.damaged sector cause
+  unfound P holds Done cause = absurd cause
+  unfound P holds Usage cause = absurd cause
+  unfound P holds (BadFile line kind) cause = absurd cause
+  unfound P holds SourceFault cause = absurd cause
+  unfound P holds SinkFault cause = absurd cause
+  unfound P holds (PoolExists group) cause = absurd cause
+  unfound P holds (BadSize n) cause = absurd cause
+  unfound P holds (LastGroup group) cause = absurd cause
+
+  -- so a session ends, which imported none
+  pub find_ends : (sealed : ℕ) → sealed ≡ 0 → (status : Status) → FindCause status tag old new → EndsOpening status Run tag old new sealed
+  find_ends sealed zero = unfound (λ status. EndsOpening status Run tag old new sealed) (record {
+    unread = λ rose. record { may = refl; cause = rose_by_one old.read_faults new.read_faults rose; sealed_is = zero };
+    unwritten = λ rose. record { may = refl; cause = rose; sealed_is = zero };
+    memory = record { may = refl; cause = tt; sealed_is = zero };
+    none = λ none. record {
+      may = refl;
+      cause = if_told HasNoPool (λ image. (Run ≡ Run) × HasNoPool image) old.seen (λ image is. (refl, is)) none;
+      sealed_is = zero;
+    };
+    damaged = λ sector damaged. record {
+      may = refl;
+      cause = if_told (IsDamaged tag) (λ image. (Run ≡ Run) × IsDamaged tag image) old.seen (λ image is. (refl, is)) damaged;
+      sealed_is = zero;
+    };
+  })
+
+-- ---- A pool that was not made
 
 module _ (old new : DiskState) where
-  -- the pool of a session was not made
-  pub begin_cause : (tag : ℕ) (status : Status) → MakeCause status old new → HasCauseFor status Make tag (between old new None None 0 0) 0
-  begin_cause tag ReadFault cause = rose_by_one old.read_faults new.read_faults cause.1
-  begin_cause tag WriteFault cause = cause.1
-  begin_cause tag OutOfMemory cause = tt
-  begin_cause tag (PoolExists group) cause = (refl, cause.0, cause.1)
-  begin_cause tag (BadSize n) cause = (refl, cause.0, cause.1)
-  begin_cause tag Done cause = absurd cause
-  begin_cause tag Usage cause = absurd cause
-  begin_cause tag (BadFile line kind) cause = absurd cause
-  begin_cause tag SourceFault cause = absurd cause
-  begin_cause tag SinkFault cause = absurd cause
-  begin_cause tag NoPool cause = absurd cause
-  begin_cause tag (Damaged sector) cause = absurd cause
-  begin_cause tag (LastGroup group) cause = absurd cause
+  -- what holds of each status that comes then
+  pub record WhereUnmade (P : Status → Type 0) : Type 0 where
+    pub unread : IsLawfulSize old.sectors → Rose old.read_faults new.read_faults → P ReadFault
+    pub unwritten : IsLawfulSize old.sectors → Rose old.write_faults new.write_faults → P WriteFault
+    pub memory : P OutOfMemory
+    pub there : (group : ℕ) → IsLawfulSize old.sectors → IfSome old.seen (HasNewest group) → P (PoolExists group)
+    pub unlawful : (n : ℕ) → n ≡ old.sectors → (IsLawfulSize old.sectors → ⊥) → P (BadSize n)
 
-  -- a pool that was not made ends the session so, and none was imported
-  pub make_ends : (status : Status) → MakeCause status old new → (may_end_opening (origin status) ≡ true) × (imported_by status ≡ 0)
-  make_ends ReadFault cause = (refl, refl)
-  make_ends WriteFault cause = (refl, refl)
-  make_ends OutOfMemory cause = (refl, refl)
-  make_ends (PoolExists group) cause = (refl, refl)
-  make_ends (BadSize n) cause = (refl, refl)
-  make_ends Done cause = absurd cause
-  make_ends Usage cause = absurd cause
-  make_ends (BadFile line kind) cause = absurd cause
-  make_ends SourceFault cause = absurd cause
-  make_ends SinkFault cause = absurd cause
-  make_ends NoPool cause = absurd cause
-  make_ends (Damaged sector) cause = absurd cause
-  make_ends (LastGroup group) cause = absurd cause
+  pub unmade : (P : Status → Type 0) → WhereUnmade P → (status : Status) → MakeCause status old new → P status
+  unmade P holds ReadFault cause = holds.unread cause.0 cause.1
+  unmade P holds WriteFault cause = holds.unwritten cause.0 cause.1
+  unmade P holds OutOfMemory cause = holds.memory
+  unmade P holds (PoolExists group) cause = holds.there group cause.0 cause.1
+  unmade P holds (BadSize n) cause = holds.unlawful n cause.0 cause.1
+  unmade P holds Done cause = absurd cause
+  unmade P holds Usage cause = absurd cause
+  unmade P holds (BadFile line kind) cause = absurd cause
+  unmade P holds SourceFault cause = absurd cause
+  unmade P holds SinkFault cause = absurd cause
+  unmade P holds NoPool cause = absurd cause
+  unmade P holds (Damaged sector) cause = absurd cause
+  unmade P holds (LastGroup group) cause = absurd cause
+
+  -- so a session ends, which imported none
+  pub make_ends : (tag sealed : ℕ) → sealed ≡ 0 → (status : Status) → MakeCause status old new → EndsOpening status Make tag old new sealed
+  make_ends tag sealed zero = unmade (λ status. EndsOpening status Make tag old new sealed) (record {
+    unread = λ lawful rose. record { may = refl; cause = rose_by_one old.read_faults new.read_faults rose; sealed_is = zero };
+    unwritten = λ lawful rose. record { may = refl; cause = rose; sealed_is = zero };
+    memory = record { may = refl; cause = tt; sealed_is = zero };
+    there = λ group lawful newest. record { may = refl; cause = (refl, lawful, newest); sealed_is = zero };
+    unlawful = λ n same small. record { may = refl; cause = (refl, same, small); sealed_is = zero };
+  })
 
   -- on a disk whose size is not lawful, it is by its size, or by want of memory
-  pub make_sized : (refused : Type 0) → refused → (status : Status) → MakeCause status old new → (IsLawfulSize old.sectors → ⊥)
-      → SizedSo status refused
-  make_sized refused is ReadFault cause unlawful = unlawful cause.0
-  make_sized refused is WriteFault cause unlawful = unlawful cause.0
-  make_sized refused is OutOfMemory cause unlawful = tt
-  make_sized refused is (PoolExists group) cause unlawful = unlawful cause.0
-  make_sized refused is (BadSize n) cause unlawful = is
-  make_sized refused is Done cause unlawful = absurd cause
-  make_sized refused is Usage cause unlawful = absurd cause
-  make_sized refused is (BadFile line kind) cause unlawful = absurd cause
-  make_sized refused is SourceFault cause unlawful = absurd cause
-  make_sized refused is SinkFault cause unlawful = absurd cause
-  make_sized refused is NoPool cause unlawful = absurd cause
-  make_sized refused is (Damaged sector) cause unlawful = absurd cause
-  make_sized refused is (LastGroup group) cause unlawful = absurd cause
-
-module _ (tag : ℕ) (devices : Devices) where
-  -- the pool that is to be told of was not found
-  pub tell_cause : (status : Status) → FindCause status tag devices.before devices.after → LookCause status Stat tag devices
-  tell_cause ReadFault cause = cause
-  tell_cause WriteFault cause = cause
-  tell_cause OutOfMemory cause = tt
-  tell_cause NoPool cause = (refl, cause)
-  tell_cause (Damaged sector) cause = (refl, cause)
-  tell_cause Done cause = absurd cause
-  tell_cause Usage cause = absurd cause
-  tell_cause (BadFile line kind) cause = absurd cause
-  tell_cause SourceFault cause = absurd cause
-  tell_cause SinkFault cause = absurd cause
-  tell_cause (PoolExists group) cause = absurd cause
-  tell_cause (BadSize n) cause = absurd cause
-  tell_cause (LastGroup group) cause = absurd cause
-
-  -- the pool that is to be created was not made
-  pub create_cause : (status : Status) → MakeCause status devices.before devices.after → LookCause status Create tag devices
-  create_cause ReadFault cause = cause.1
-  create_cause WriteFault cause = cause.1
-  create_cause OutOfMemory cause = tt
-  create_cause (PoolExists group) cause = (refl, cause.0, cause.1)
-  create_cause (BadSize n) cause = (refl, cause.0, cause.1)
-  create_cause Done cause = absurd cause
-  create_cause Usage cause = absurd cause
-  create_cause (BadFile line kind) cause = absurd cause
-  create_cause SourceFault cause = absurd cause
-  create_cause SinkFault cause = absurd cause
-  create_cause NoPool cause = absurd cause
-  create_cause (Damaged sector) cause = absurd cause
-  create_cause (LastGroup group) cause = absurd cause
+  pub sized_so : (refused : Type 0) → (IsLawfulSize old.sectors → ⊥) → (status : Status) → MakeCause status old new
+      → ((n : ℕ) → status ≡ BadSize n → refused) → SizedSo status refused
+  sized_so refused unlawful = unmade (λ status. ((n : ℕ) → status ≡ BadSize n → refused) → SizedSo status refused) (record {
+    unread = λ lawful. absurd (unlawful lawful);
+    unwritten = λ lawful. absurd (unlawful lawful);
+    memory = λ bad. tt;
+    there = λ group lawful. absurd (unlawful lawful);
+    unlawful = λ n same small bad. bad n refl;
+  })

@@ -1,9 +1,8 @@
 -- One item more of a session: what it adds to the steps so far, and to what a crash leaves.
-use Rattle.std.proofs.Common.{◌≡◌, ◌≤◌, ℕ, Bool, true, false, List, [], ◌∷◌, ◌++◌, Option, Some, None, refl, sym, ap, ◌∙◌, subst, take, append_assoc, append-nil}
+use Rattle.std.proofs.Common.{◌≡◌, ℕ, Bool, true, List, [], ◌∷◌, ◌++◌, Option, Some, None, refl, sym, ap, ◌∙◌, subst, take, append_assoc, append-nil}
 use Rattle.std.specs.List.{AllByRecursion, flat_map}
 use Rattle.std.specs.Io.KnownBytes.{Appends, Keeps}
 use Rattle.std.proofs.KnownBytes.{Appends-trans}
-use Rattle.io_model.specs.Outside.{TookFront}
 use Rattle.disk_model.specs.Images.{Image}
 use Rattle.disk_model.specs.Crashes.{DiskState, LeavesOnly}
 use Rattle.disk_model.proofs.Moments.{weakened, and_then}
@@ -11,7 +10,7 @@ use Rattle.ddt_entry.specs.declared.key.Key.{Key}
 use Rattle.pool_model.specs.Plain.{Part}
 use Rattle.pool_model.specs.Clash.{HasNoOther, contents, part_contents, part_trusted}
 use Rattle.pool_model.specs.Group.{Standing, Rules}
-use Rattle.pool_model.specs.Run.{HasFlatRoom, RunStep, HasEnded, IsRun, last_standing, stands_after, parts_of}
+use Rattle.pool_model.specs.Run.{HasFlatRoom, RunStep, IsRun, last_standing, stands_after, parts_of}
 use Rattle.pool_model.specs.Crash.{AnyStands, StandsAt, begun, begun_by}
 use Rattle.pool_model.specs.Text.{report, step_text}
 use Rattle.pool_model.specs.Waiting.{AreAmong}

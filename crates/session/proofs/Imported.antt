@@ -1,30 +1,25 @@
 -- The pool that is imported again over told contents is the one that stood in memory.
-use Rattle.std.proofs.Common.{◌≡◌, ◌∙◌, ℕ, true, Option, Some, None, Err, refl, sym, ap, subst}
+use Rattle.std.proofs.Common.{◌≡◌, ◌∙◌, ℕ, true, Option, Some, None, Err, refl, sym, subst}
 use Rattle.std.specs.Prelude.{IfSome, IsErrOf}
 use Rattle.disk_model.specs.Images.{Image, Stays}
 use Rattle.disk_model.specs.Crashes.{DiskState, NothingPending}
-use Rattle.uber_ring.specs.Ring.{newest}
-use Rattle.uber_ring.specs.declared.seal.Seal.{Seal}
 use Rattle.pool_model.specs.Pool.{Pool}
 use Rattle.pool_model.specs.Table.{TableState}
 use Rattle.pool_model.specs.Group.{Standing}
 use Rattle.pool_model.specs.declared.faults.SyncFault.{SyncFault}
 use Rattle.pool_model.specs.declared.faults.SyncFault.TheVariants.{ReadFault, WriteFault, GateFault, Damaged, Memory}
-use Rattle.table_state.specs.Flat.{StandsFor, HasNoPool, IsDamaged}
-use Rattle.table_state.specs.Holding.{Holds}
+use Rattle.table_state.specs.Flat.{StandsFor, IsDamaged}
 use Rattle.table_state.specs.Pools.{Held, IsHeld}
-use Rattle.table_state.proofs.Held.{holds_over, over_held}
+use Rattle.table_state.proofs.Held.{over_held}
 use Rattle.session.specs.Faults.{status_of}
 use Rattle.session.specs.Origins.{origin, may_begin}
 use Rattle.session.specs.StageEntries.{IsOver, StandsForTold}
 use Rattle.session.specs.declared.status.Status.{Status}
+use Rattle.session.proofs.Over.{over_holds}
 
 -- the pool in memory stands for what the disk tells
 abbrev pub IsFoundOver : Option Image → Held → Type 0
 IsFoundOver seen found = IfSome seen (λ image. (pool : Pool) × (table : TableState) × IsHeld image found pool table)
-
-none_some : (found : Option Seal) (seal : Seal) → found ≡ Some seal → found ≡ None → ⊥
-none_some found seal some none = cc (some, none)
 
 -- it stands where the old one stood
 pub found_over : (tag : ℕ) (old new : DiskState) (held found : Held) (s : Standing) → held.tag ≡ tag → found.tag ≡ tag → IsFoundOver old.seen found
@@ -36,43 +31,15 @@ found_over tag old new held found s tag_is found_tag_is given over stays quiet =
       told = subst (λ (o : Option Image). Stays o new.seen) over.told stays;
       quiet = subst (λ (o : Option Image). NothingPending o new.may_leave) over.told quiet;
       stands = over_held over.image found there.0 there.1 s there.2
-          (subst (λ t. Holds t over.image s) (tag_is ∙ sym found_tag_is) (holds_over over.image held s over.stands));
+          (over_holds old held s found.tag over (tag_is ∙ sym found_tag_is));
     }
 
--- what was imported stands where it is told
-pub found_told : (old new : Option Image) (found : Held) → (old ≡ None → new ≡ None) → Stays old new → IsFoundOver old found → StandsForTold new found
-found_told None new found untold stays given = subst (λ (o : Option Image). StandsForTold o found) (sym (untold refl)) tt
-found_told (Some image) new found untold stays given = subst (λ (o : Option Image). StandsForTold o found) (sym stays) given
-
--- where a pool is told there is one, and no damage
-pub not_none : (old : Option Image) (held : Held) (image : Image) → StandsForTold old held → old ≡ Some image → IfSome old HasNoPool → ⊥
-not_none None held image stood told none = cc told
-not_none (Some other) held image stood told none = none_some (newest 0 other) stood.2.stands.seal stood.2.stands.counts none
-
+-- where a pool is told there is no damage
 pub not_damaged : (tag : ℕ) (old : Option Image) (held : Held) (image : Image) → held.tag ≡ tag → StandsForTold old held → old ≡ Some image
     → IfSome old (IsDamaged tag) → ⊥
 not_damaged tag None held image tag_is stood told damaged = cc told
 not_damaged tag (Some other) held image tag_is stood told damaged =
     damaged.no_pool stood.0 stood.1 (subst (λ t. StandsFor t other stood.0 stood.1) tag_is stood.2.stands)
-
--- it is of the same group, on as many sectors
-pub found_same : (tag : ℕ) (old : Option Image) (held found : Held) → held.tag ≡ tag → found.tag ≡ tag → IsFoundOver old found
-    → StandsForTold old held → (image : Image) → old ≡ Some image → (found.group ≡ held.group) × (found.sectors ≡ held.sectors)
-found_same tag None held found tag_is found_tag_is given stood image told = cc told
-found_same tag (Some other) held found tag_is found_tag_is given stood image told =
-    same_numbers other held found tag_is found_tag_is stood.0 given.0 stood.1 given.1 stood.2 given.2
-  where
-    same_some : (a b : Seal) → Some a ≡ Some b → a ≡ b
-    same_some a b same = cc same
-
-    same_numbers : (image : Image) (held found : Held) → held.tag ≡ tag → found.tag ≡ tag → (p q : Pool) (t u : TableState)
-        → IsHeld image held p t → IsHeld image found q u → (found.group ≡ held.group) × (found.sectors ≡ held.sectors)
-    same_numbers image held found tag_is found_tag_is p q t u was now =
-        let seals = same_some now.stands.seal was.stands.seal (sym now.stands.counts ∙ was.stands.counts) in (
-          now.group_is ∙ ap (λ (x : Pool). x.group) now.stands.pool_is ∙ ap (λ (seal : Seal). seal.group) seals
-              ∙ sym (was.group_is ∙ ap (λ (x : Pool). x.group) was.stands.pool_is),
-          now.sectors_are ∙ ap (λ (seal : Seal). seal.sectors) seals ∙ sym was.sectors_are,
-        )
 
 -- what holds of what was found
 pub of_found : {X : Type 0} (P : X → Type 0) (o : Option X) (found : X) → o ≡ Some found → IfSome o P → P found

@@ -1,5 +1,5 @@
 -- How an item ends a session or lets it go on, once its text is written.
-use Rattle.std.proofs.Common.{◌≡◌, ◌∙◌, ℕ, Bool, true, false, List, [], ◌∷◌, Option, Some, None, Result, Ok, Err, refl, sym, ap, subst, inl, inr}
+use Rattle.std.proofs.Common.{◌≡◌, ◌∙◌, ℕ, false, List, [], ◌∷◌, Option, Some, None, Result, Ok, Err, refl, sym, ap, subst, inl, inr}
 use Rattle.std.specs.Prelude.{⊤, OnOk, codes, if◌then◌else◌}
 use Rattle.std.specs.Io.KnownBytes.{Appends, Keeps}
 use Rattle.std.proofs.KnownBytes.{Keeps-refl}
@@ -25,21 +25,15 @@ use Rattle.report.specs.ItemText.{text_of}
 use Rattle.report.specs.Writes.{Wrote}
 use Rattle.table_state.specs.Holding.{Holds}
 use Rattle.table_state.specs.Pools.{Held}
-use Rattle.table_state.proofs.Held.{holds_over}
 use Rattle.session.specs.Devices.{Devices}
 use Rattle.session.specs.StageEntries.{IsOver}
 use Rattle.session.specs.StageGroups.{GroupCut, GroupEnded, GroupWent, TellsGroup, ended_by, group_step}
 use Rattle.session.specs.StageItems.{EndsSo, ItemCut, ItemDone, ItemWent}
 use Rattle.session.specs.Running.{is_write_fault}
 use Rattle.session.specs.Stopping.{IsCut}
-use Rattle.session.specs.Origins.{origin, may_begin}
 use Rattle.session.specs.declared.status.Status.{Status}
+use Rattle.session.proofs.Over.{over_leaves}
 use Rattle.session.specs.declared.status.Status.TheVariants.{Done, Usage, BadFile, SourceFault, SinkFault, ReadFault, WriteFault, NoPool, Damaged, OutOfMemory, PoolExists, BadSize, LastGroup}
-
--- what follows of a call that went well
-pub on_ok : {T E : Type 0} (result : Result T E) (P Q : Type 0) → (P → Q) → OnOk result P → OnOk result Q
-on_ok (Ok x) P Q next here = next here
-on_ok (Err e) P Q next here = tt
 
 -- where nothing was written, what is left is kept
 kept : (written now : Option (List ℕ)) → now ≡ written → Keeps written now
@@ -104,8 +98,7 @@ module _ (devices : Devices) (keying : Keying) (s : Standing) (moment : ℕ) (ta
       crash = ended.crash;
       at_return = λ c left.
           ended_at told.outcome rules s item told ended.after ended.ended.did (Holds keying.tag c) sealed
-          (subst (λ (d : Image). Holds keying.tag d (stands_after step)) (sym (ended.over.quiet.1 c left))
-          (subst (λ t. Holds t ended.over.image (stands_after step)) tag_is (holds_over ended.over.image held (stands_after step) ended.over.stands)))
+          (over_leaves devices.after held (stands_after step) keying.tag ended.over tag_is c left)
           (sym (sealed_is ∙ ended.over.stands.is_held.group_is));
     }
 

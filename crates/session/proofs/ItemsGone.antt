@@ -1,6 +1,5 @@
 -- The loop over a session's items: where it begins, goes on, and ends.
 use Rattle.std.proofs.Common.{◌≡◌, ◌≤◌, ◌<◌, ◌+◌, ◌-◌, ◌^◌, ℕ, true, min, sum_by, List, [], ◌∷◌, ◌++◌, map, take, drop, get_or, length, Option, Some, None, refl, sym, ap, ◌∙◌, arith, subst, zero, suc, Result, Ok, Err, inl}
-use Rattle.std.specs.List.{AllByRecursion}
 use Rattle.std.proofs.lemmas.List.{take_more, map-append}
 use Rattle.std.proofs.lemmas.Bool.Decides.{nat_tests}
 use Rattle.std.proofs.KnownBytes.{Appends-nil}
@@ -16,16 +15,15 @@ use Rattle.pool_model.specs.Crash.{AnyStands}
 use Rattle.pool_model.proofs.Steps.{parts_of-append, notes_of-append}
 use Rattle.table_state.specs.Holding.{Holds}
 use Rattle.table_state.specs.Pools.{Held}
-use Rattle.table_state.specs.SealForms.{last_group}
-use Rattle.table_state.proofs.Held.{holds_over}
 use Rattle.session.specs.Devices.{Devices, between}
 use Rattle.session.specs.Entries.{last_start}
 use Rattle.session.specs.Origins.{origin, may_begin}
 use Rattle.session.specs.StageEntries.{IsOnDisk, IsOver}
 use Rattle.session.specs.StageItems.{HasNoClashIn, ItemWent, may_end_item}
 use Rattle.session.specs.StageGoing.{GoesOn, StopsIn}
-use Rattle.session.specs.Running.{told_in, faults_in, RoseBeyond}
+use Rattle.session.specs.Running.{told_in, faults_in}
 use Rattle.session.specs.declared.status.Status.{Status}
+use Rattle.session.proofs.Over.{over_leaves}
 use Rattle.session.proofs.Goings.{no_clash_now, with_item, of_item, more_going, stop_now}
 
 -- the first so many items were done
@@ -40,13 +38,6 @@ pub record HasGone (devices : Devices) (rules : Rules) (first held : Held) (item
   pub writes : devices.before.write_faults ≤ devices.after.write_faults
   pub sink : devices.sink_before ≤ devices.sink_now
 
--- what holds of each item by recursion
-pub item_at : {X Y : Type 0} (P : Y → Type 0) (f : X → Y) (xs : List X) (i : ℕ) (d : X) → i < length xs → AllByRecursion P (map f xs)
-    → P (f (get_or xs i d))
-item_at P f [] i d h all = absurd (omega arith)
-item_at P f (x ∷ xs) zero d h all = all.0
-item_at P f (x ∷ xs) (suc i) d h all = item_at P f xs i d (omega arith) all.1
-
 -- some items, one, and the rest
 split_at : (items : List Item) (i : ℕ) (d : Item) → i < length items
     → map part_of items ≡ map part_of (take i items) ++ part_of (get_or items i d) ∷ map part_of (drop (suc i) items)
@@ -58,13 +49,6 @@ pub split_of : (items : List Item) (i : ℕ) (item : Item) → i < length items 
     → map part_of items ≡ map part_of (take i items) ++ part_of item ∷ map part_of (drop (suc i) items)
 split_of items i item within is =
     split_at items i item within ∙ ap (λ x. map part_of (take i items) ++ part_of x ∷ map part_of (drop (suc i) items)) (sym is)
-
--- a crash leaves what the pool in memory is over
-pub over_leaves : (disk : DiskState) (held : Held) (s : Standing) (tag : ℕ) → IsOver disk held s → held.tag ≡ tag
-    → (c : Image) → disk.may_leave c → Holds tag c s
-over_leaves disk held s tag over tag_is c leaves =
-    subst (λ (i : Image). Holds tag i s) (sym (over.quiet.1 c leaves))
-    (subst (λ (t : ℕ). Holds t over.image s) tag_is (holds_over over.image held s over.stands))
 
 module _ (rules : Rules) (first : Held) (parts : List Part) where
   -- before the first item
@@ -196,21 +180,9 @@ same_sectors start mid new before now = now ∙ before
 min_more : (a f later m n most : ℕ) → min (a + f) most ≤ m → min (m + (later - f)) most ≤ n → f ≤ later → min (a + later) most ≤ n
 min_more a f later m n most before now more = grind (arith, nat_tests)
 
-beyond_more : (a f later m n most : ℕ) → min (a + f) most ≤ m → min (m + (later - f) + 1) most ≤ n → f ≤ later
-    → min (a + later + 1) most ≤ n
-beyond_more a f later m n most before now more = grind (arith, nat_tests)
-
 pub reads_more : (start mid new : ℕ) (f later : ℕ) → min (start + f) (2 ^ 64 - 1) ≤ mid → min (mid + (later - f)) (2 ^ 64 - 1) ≤ new
     → f ≤ later → min (start + later) (2 ^ 64 - 1) ≤ new
 reads_more start mid new f later before now more = min_more start f later mid new (2 ^ 64 - 1) before now more
-
-pub reads_beyond : (start mid new : ℕ) (f later : ℕ) → min (start + f) (2 ^ 64 - 1) ≤ mid → RoseBeyond (later - f) mid new → f ≤ later
-    → RoseBeyond later start new
-reads_beyond start mid new f later before now more = beyond_more start f later mid new (2 ^ 64 - 1) before now more
-
--- the next group's number is in its range
-pub number_fits : (group i n : ℕ) → group ≤ last_start + i → i < n → n ≤ 10000 → group + 1 ≤ last_group
-number_fits group i n early below few = omega (arith, early, below, few)
 
 -- contents that are told now were told before
 pub told_before : (mid new : Option Image) (image : Image) → (mid ≡ None → new ≡ None) → new ≡ Some image

@@ -6,6 +6,7 @@ mod ItemsGone
 mod Looked
 mod Made
 mod Opened
+mod Over
 mod Sealing
 mod Sessions
 mod Unsealed

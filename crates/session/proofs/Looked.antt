@@ -1,10 +1,10 @@
 -- What a session comes to that runs no command file.
-use Rattle.std.proofs.Common.{◌≡◌, ◌∙◌, ℕ, Bool, true, false, List, [], ◌∷◌, length, Option, Some, refl, sym, subst, inl, inr}
-use Rattle.std.specs.Prelude.{◌⊎◌, ⊤}
-use Rattle.std.specs.Io.KnownBytes.{Keeps}
+use Rattle.std.proofs.Common.{◌≡◌, ◌∙◌, ℕ, true, false, List, [], ◌∷◌, Option, refl, subst, inl, inr}
+use Rattle.std.specs.Prelude.{◌⊎◌}
+use Rattle.io_model.specs.Outside.{Rose}
 use Rattle.std.proofs.KnownBytes.{Keeps-refl}
 use Rattle.disk_model.specs.Images.{Image}
-use Rattle.disk_model.specs.Crashes.{DiskState, NothingPending}
+use Rattle.disk_model.specs.Crashes.{DiskState}
 use Rattle.pool_model.specs.declared.stats.Stats.{Stats}
 use Rattle.pool_model.specs.Pool.{Pool}
 use Rattle.pool_model.specs.Table.{TableState}
@@ -17,16 +17,17 @@ use Rattle.table_state.specs.Pools.{Held, IsHeld}
 use Rattle.table_state.proofs.Held.{holds_over, standing_over, stands_as_held}
 use Rattle.session.specs.Devices.{between}
 use Rattle.session.specs.Crashing.{SameFound}
-use Rattle.session.specs.Stopping.{IsKept}
-use Rattle.session.specs.Running.{SizedSo, is_write_fault}
+use Rattle.session.specs.Running.{is_write_fault}
 use Rattle.session.specs.Looking.{CreatedAtReturn, CreatedSo, Creates, IsCreated, LookCause, MayBeCreated, Tells, ToldSo, created_text, new_on}
 use Rattle.session.specs.StageFinding.{FindCause, IsLeft, IsThere}
-use Rattle.session.specs.StageMaking.{IsNewPool, MakeCause, MakingCrashes}
+use Rattle.session.specs.StageMaking.{IsNewPool, IsNotMade, MakeCause}
 use Rattle.session.specs.StageWriting.{WriteCause, WritesSo}
 use Rattle.session.specs.Entries.{IsLawfulSize}
 use Rattle.session.specs.declared.status.Status.{Status}
 use Rattle.session.specs.declared.status.Status.TheVariants.{Done, Usage, BadFile, SourceFault, SinkFault, ReadFault, WriteFault, NoPool, Damaged, OutOfMemory, PoolExists, BadSize, LastGroup}
 use Rattle.session.specs.declared.words.Look.TheVariants.{Create, Stat}
+use Rattle.session.proofs.Causes.{unfound, unmade}
+use Rattle.session.proofs.Over.{over_holds, over_leaves}
 
 -- what holds of the numbers of a pool in memory holds of the pool's
 pub told_of_pool : (P : ℕ → Option ℕ → Stats → Type 0) (image : Image) (held : Held) (pool : Pool) (table : TableState)
@@ -56,43 +57,7 @@ module _ (tag : ℕ) (image : Image) (s : Standing) (written now : Option (List 
   told_so (BadSize n) text = text
   told_so (LastGroup group) text = text
 
--- ---- What has no text
-
--- a status with which nothing was told or created
-abbrev IsBare : Status → Type 0
-IsBare Done = ⊥
-IsBare SinkFault = ⊥
-IsBare _ = ⊤
-
-found_bare : (status : Status) (tag : ℕ) (old new : DiskState) → FindCause status tag old new → IsBare status
-found_bare Done tag old new cause = cause
-found_bare SinkFault tag old new cause = cause
-found_bare Usage tag old new cause = tt
-found_bare (BadFile line kind) tag old new cause = tt
-found_bare SourceFault tag old new cause = tt
-found_bare ReadFault tag old new cause = tt
-found_bare WriteFault tag old new cause = tt
-found_bare NoPool tag old new cause = tt
-found_bare (Damaged sector) tag old new cause = tt
-found_bare OutOfMemory tag old new cause = tt
-found_bare (PoolExists group) tag old new cause = tt
-found_bare (BadSize n) tag old new cause = tt
-found_bare (LastGroup group) tag old new cause = tt
-
-made_bare : (status : Status) (old new : DiskState) → MakeCause status old new → IsBare status
-made_bare Done old new cause = cause
-made_bare SinkFault old new cause = cause
-made_bare Usage old new cause = tt
-made_bare (BadFile line kind) old new cause = tt
-made_bare SourceFault old new cause = tt
-made_bare ReadFault old new cause = tt
-made_bare WriteFault old new cause = tt
-made_bare NoPool old new cause = tt
-made_bare (Damaged sector) old new cause = tt
-made_bare OutOfMemory old new cause = tt
-made_bare (PoolExists group) old new cause = tt
-made_bare (BadSize n) old new cause = tt
-made_bare (LastGroup group) old new cause = tt
+-- ---- Where none was made
 
 -- no write failed, so that nothing of a new pool stands
 unfailed : {A B : Type 0} → A ⊎ ((false ≡ true) × B) → A
@@ -106,53 +71,24 @@ either_stands tag image c stands may (inl same) = inl same
 either_stands tag image c stands (inl none) (inr failed) = absurd (subst (FirstStands (Holds tag c)) none failed.1)
 either_stands tag image c stands (inr one) (inr failed) = inr (subst (FirstStands (Holds tag c)) one.0 failed.1)
 
-module _ (tag : ℕ) (image : Image) (written : Option (List ℕ)) where
-  untold : (status : Status) → IsBare status → ToldSo status tag image written written
-  untold Done bare = absurd bare
-  untold SinkFault bare = absurd bare
-  untold Usage bare = Keeps-refl written
-  untold (BadFile line kind) bare = Keeps-refl written
-  untold SourceFault bare = Keeps-refl written
-  untold ReadFault bare = Keeps-refl written
-  untold WriteFault bare = Keeps-refl written
-  untold NoPool bare = Keeps-refl written
-  untold (Damaged sector) bare = Keeps-refl written
-  untold OutOfMemory bare = Keeps-refl written
-  untold (PoolExists group) bare = Keeps-refl written
-  untold (BadSize n) bare = Keeps-refl written
-  untold (LastGroup group) bare = Keeps-refl written
+-- ---- A text that is written whatever stands
 
-  uncreated : (created : Type 0) (status : Status) → IsBare status → CreatedSo status created written written
-  uncreated created Done bare = absurd bare
-  uncreated created SinkFault bare = absurd bare
-  uncreated created Usage bare = Keeps-refl written
-  uncreated created (BadFile line kind) bare = Keeps-refl written
-  uncreated created SourceFault bare = Keeps-refl written
-  uncreated created ReadFault bare = Keeps-refl written
-  uncreated created WriteFault bare = Keeps-refl written
-  uncreated created NoPool bare = Keeps-refl written
-  uncreated created (Damaged sector) bare = Keeps-refl written
-  uncreated created OutOfMemory bare = Keeps-refl written
-  uncreated created (PoolExists group) bare = Keeps-refl written
-  uncreated created (BadSize n) bare = Keeps-refl written
-  uncreated created (LastGroup group) bare = Keeps-refl written
-
-  -- what a crash leaves of a creation that failed
-  left_uncreated : (c : Image) (stands : List Standing) → MayBeCreated image stands → (status : Status) → IsBare status
-      → SameFound image c ⊎ ((is_write_fault status ≡ true) × FirstStands (Holds tag c) stands) → CreatedAtReturn status tag image c
-  left_uncreated c stands may Done bare left = absurd bare
-  left_uncreated c stands may SinkFault bare left = absurd bare
-  left_uncreated c stands may WriteFault bare left = either_stands tag image c stands may left
-  left_uncreated c stands may Usage bare left = unfailed left
-  left_uncreated c stands may (BadFile line kind) bare left = unfailed left
-  left_uncreated c stands may SourceFault bare left = unfailed left
-  left_uncreated c stands may ReadFault bare left = unfailed left
-  left_uncreated c stands may NoPool bare left = unfailed left
-  left_uncreated c stands may (Damaged sector) bare left = unfailed left
-  left_uncreated c stands may OutOfMemory bare left = unfailed left
-  left_uncreated c stands may (PoolExists group) bare left = unfailed left
-  left_uncreated c stands may (BadSize n) bare left = unfailed left
-  left_uncreated c stands may (LastGroup group) bare left = unfailed left
+-- what holds of each status that comes then
+pub written_by : (sink sink_now : ℕ) (P : Status → Type 0) → P Done → (Rose sink sink_now → P SinkFault) → (status : Status)
+    → WriteCause status sink sink_now → P status
+written_by sink sink_now P done sank Done cause = done
+written_by sink sink_now P done sank SinkFault cause = sank cause
+written_by sink sink_now P done sank Usage cause = absurd cause
+written_by sink sink_now P done sank (BadFile line kind) cause = absurd cause
+written_by sink sink_now P done sank SourceFault cause = absurd cause
+written_by sink sink_now P done sank ReadFault cause = absurd cause
+written_by sink sink_now P done sank WriteFault cause = absurd cause
+written_by sink sink_now P done sank NoPool cause = absurd cause
+written_by sink sink_now P done sank (Damaged sector) cause = absurd cause
+written_by sink sink_now P done sank OutOfMemory cause = absurd cause
+written_by sink sink_now P done sank (PoolExists group) cause = absurd cause
+written_by sink sink_now P done sank (BadSize n) cause = absurd cause
+written_by sink sink_now P done sank (LastGroup group) cause = absurd cause
 
 -- ---- The sessions
 
@@ -176,133 +112,108 @@ module _ (old new : DiskState) (tag : ℕ) (image : Image) (written now : Option
   tells_nothing status left cause = record {
     stays = left.told;
     any_moment = left.any_moment;
-    done = untold tag image written status (found_bare status tag old new cause);
+    done = unfound tag old new (λ status. ToldSo status tag image written written) (record {
+      unread = λ rose. Keeps-refl written;
+      unwritten = λ rose. Keeps-refl written;
+      memory = Keeps-refl written;
+      none = λ none. Keeps-refl written;
+      damaged = λ sector damaged. Keeps-refl written;
+    }) status cause;
   }
 
   -- no pool was made
-  pub creates_nothing : (status : Status) → (NothingPending (Some image) old.may_leave → MakingCrashes old new tag image status)
-      → MakeCause status old new → Creates (between old new written written sink sink_now) tag image status
-  creates_nothing status made cause = record {
-    done = uncreated tag image written (IsCreated new tag image) status (made_bare status old new cause);
+  not_created : (status : Status) → CreatedSo status (IsCreated new tag image) written written
+      → ((c : Image) (stands : List Standing) → MayBeCreated image stands
+      → SameFound image c ⊎ ((is_write_fault status ≡ true) × FirstStands (Holds tag c) stands) → CreatedAtReturn status tag image c)
+      → IsNotMade old new tag image status → Creates (between old new written written sink sink_now) tag image status
+  not_created status done left made = record {
+    done = done;
+    stays = made.stays;
     crash = λ pending.
-        let crashes = made pending in
+        let crashes = made.crash pending in
         record {
           stands = crashes.stands;
           may_stand = crashes.may_stand;
           any_moment = crashes.any_moment;
-          at_return = λ c left.
-              left_uncreated tag image written c crashes.stands crashes.may_stand status (made_bare status old new cause) (crashes.at_return c left);
+          at_return = λ c leaves. left c crashes.stands crashes.may_stand (crashes.at_return c leaves);
         };
   }
 
+  pub creates_nothing : (status : Status) → MakeCause status old new → IsNotMade old new tag image status
+      → Creates (between old new written written sink sink_now) tag image status
+  creates_nothing = unmade old new
+      (λ status. IsNotMade old new tag image status → Creates (between old new written written sink sink_now) tag image status) (record {
+        unread = λ lawful rose. not_created ReadFault (Keeps-refl written) (λ c stands may. unfailed);
+        unwritten = λ lawful rose. not_created WriteFault (Keeps-refl written) (either_stands tag image);
+        memory = not_created OutOfMemory (Keeps-refl written) (λ c stands may. unfailed);
+        there = λ group lawful newest. not_created (PoolExists group) (Keeps-refl written) (λ c stands may. unfailed);
+        unlawful = λ n same small. not_created (BadSize n) (Keeps-refl written) (λ c stands may. unfailed);
+      })
+
   -- the pool was made
   module _ (held : Held) (made : IsNewPool old new tag image held) where
-    new_holds : Holds tag made.over.image (new_on image)
-    new_holds = subst (λ t. Holds t made.over.image (new_on image)) made.tag_is (holds_over made.over.image held (new_on image) made.over.stands)
-
     new_left : (c : Image) → new.may_leave c → Holds tag c (new_on image)
-    new_left c left = subst (λ i. Holds tag i (new_on image)) (sym (made.over.quiet.1 c left)) new_holds
+    new_left = over_leaves new held (new_on image) tag made.over made.tag_is
 
     is_created : IsCreated new tag image
     is_created = record {
       none = made.none;
       lawful = made.lawful;
-      kept = record { image = made.over.image; told = made.over.told; quiet = made.over.quiet; holds = new_holds };
+      kept = record {
+        image = made.over.image;
+        told = made.over.told;
+        quiet = made.over.quiet;
+        holds = over_holds new held (new_on image) tag made.over made.tag_is;
+      };
     }
 
-    pub creates : (status : Status) → WritesSo status created_text written now → WriteCause status sink sink_now
+    pub creates : (status : Status) → WriteCause status sink sink_now → WritesSo status created_text written now
         → Creates (between old new written now sink sink_now) tag image status
-    creates Done text cause = record {
-      done = (is_created, text);
-      crash = λ pending. record {
-        stands = new_on image ∷ [];
-        may_stand = inr (refl, made.none, made.lawful);
-        any_moment = made.crash pending;
-        at_return = new_left;
-      };
-    }
-    creates SinkFault text cause = record {
-      done = (is_created, text);
-      crash = λ pending. record {
-        stands = new_on image ∷ [];
-        may_stand = inr (refl, made.none, made.lawful);
-        any_moment = made.crash pending;
-        at_return = new_left;
-      };
-    }
-    creates Usage text cause = absurd cause
-    creates (BadFile line kind) text cause = absurd cause
-    creates SourceFault text cause = absurd cause
-    creates ReadFault text cause = absurd cause
-    creates WriteFault text cause = absurd cause
-    creates NoPool text cause = absurd cause
-    creates (Damaged sector) text cause = absurd cause
-    creates OutOfMemory text cause = absurd cause
-    creates (PoolExists group) text cause = absurd cause
-    creates (BadSize n) text cause = absurd cause
-    creates (LastGroup group) text cause = absurd cause
+    creates = written_by sink sink_now
+        (λ status. WritesSo status created_text written now → Creates (between old new written now sink sink_now) tag image status)
+        (λ text. record {
+          done = (is_created, text);
+          stays = tt;
+          crash = λ pending. record {
+            stands = new_on image ∷ [];
+            may_stand = inr (refl, made.none, made.lawful);
+            any_moment = made.crash pending;
+            at_return = new_left;
+          };
+        })
+        (λ rose text. record {
+          done = (is_created, text);
+          stays = tt;
+          crash = λ pending. record {
+            stands = new_on image ∷ [];
+            may_stand = inr (refl, made.none, made.lawful);
+            any_moment = made.crash pending;
+            at_return = new_left;
+          };
+        })
 
   -- ---- Why it ended so
 
-  pub written_cause : (status : Status) → IsLawfulSize old.sectors → WriteCause status sink sink_now
+  pub written_cause : IsLawfulSize old.sectors → (status : Status) → WriteCause status sink sink_now
       → LookCause status Create tag (between old new written now sink sink_now)
-  written_cause Done lawful cause = lawful
-  written_cause SinkFault lawful cause = (cause, lawful)
-  written_cause Usage lawful cause = absurd cause
-  written_cause (BadFile line kind) lawful cause = absurd cause
-  written_cause SourceFault lawful cause = absurd cause
-  written_cause ReadFault lawful cause = absurd cause
-  written_cause WriteFault lawful cause = absurd cause
-  written_cause NoPool lawful cause = absurd cause
-  written_cause (Damaged sector) lawful cause = absurd cause
-  written_cause OutOfMemory lawful cause = tt
-  written_cause (PoolExists group) lawful cause = absurd cause
-  written_cause (BadSize n) lawful cause = absurd cause
-  written_cause (LastGroup group) lawful cause = absurd cause
+  written_cause lawful =
+      written_by sink sink_now (λ status. LookCause status Create tag (between old new written now sink sink_now)) lawful
+      (λ rose. (rose, lawful))
 
   pub made_cause : (status : Status) → MakeCause status old new → LookCause status Create tag (between old new written now sink sink_now)
-  made_cause Done cause = absurd cause
-  made_cause SinkFault cause = absurd cause
-  made_cause Usage cause = absurd cause
-  made_cause (BadFile line kind) cause = absurd cause
-  made_cause SourceFault cause = absurd cause
-  made_cause ReadFault cause = cause.1
-  made_cause WriteFault cause = cause.1
-  made_cause NoPool cause = absurd cause
-  made_cause (Damaged sector) cause = absurd cause
-  made_cause OutOfMemory cause = tt
-  made_cause (PoolExists group) cause = (refl, cause.0, cause.1)
-  made_cause (BadSize n) cause = (refl, cause.0, cause.1)
-  made_cause (LastGroup group) cause = absurd cause
+  made_cause = unmade old new (λ status. LookCause status Create tag (between old new written now sink sink_now)) (record {
+    unread = λ lawful rose. rose;
+    unwritten = λ lawful rose. rose;
+    memory = tt;
+    there = λ group lawful newest. (refl, lawful, newest);
+    unlawful = λ n same small. (refl, same, small);
+  })
 
   pub found_cause : (status : Status) → FindCause status tag old new → LookCause status Stat tag (between old new written now sink sink_now)
-  found_cause Done cause = absurd cause
-  found_cause SinkFault cause = absurd cause
-  found_cause Usage cause = absurd cause
-  found_cause (BadFile line kind) cause = absurd cause
-  found_cause SourceFault cause = absurd cause
-  found_cause ReadFault cause = cause
-  found_cause WriteFault cause = cause
-  found_cause NoPool cause = (refl, cause)
-  found_cause (Damaged sector) cause = (refl, cause)
-  found_cause OutOfMemory cause = tt
-  found_cause (PoolExists group) cause = absurd cause
-  found_cause (BadSize n) cause = absurd cause
-  found_cause (LastGroup group) cause = absurd cause
-
--- where the size isn't lawful no pool was made but for it
-pub sized_so : (status : Status) (old new : DiskState) (refused : Type 0) → MakeCause status old new → (IsLawfulSize old.sectors → ⊥)
-    → ((n : ℕ) → status ≡ BadSize n → refused) → SizedSo status refused
-sized_so Done old new refused cause unlawful bad = cause
-sized_so SinkFault old new refused cause unlawful bad = cause
-sized_so Usage old new refused cause unlawful bad = tt
-sized_so (BadFile line kind) old new refused cause unlawful bad = tt
-sized_so SourceFault old new refused cause unlawful bad = tt
-sized_so ReadFault old new refused cause unlawful bad = unlawful cause.0
-sized_so WriteFault old new refused cause unlawful bad = unlawful cause.0
-sized_so NoPool old new refused cause unlawful bad = cause
-sized_so (Damaged sector) old new refused cause unlawful bad = cause
-sized_so OutOfMemory old new refused cause unlawful bad = tt
-sized_so (PoolExists group) old new refused cause unlawful bad = unlawful cause.0
-sized_so (BadSize n) old new refused cause unlawful bad = bad n refl
-sized_so (LastGroup group) old new refused cause unlawful bad = cause
+  found_cause = unfound tag old new (λ status. LookCause status Stat tag (between old new written now sink sink_now)) (record {
+    unread = λ rose. rose;
+    unwritten = λ rose. rose;
+    memory = tt;
+    none = λ none. (refl, none);
+    damaged = λ sector damaged. (refl, damaged);
+  })

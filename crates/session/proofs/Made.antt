@@ -1,5 +1,5 @@
 -- What a crash leaves while a new pool is made, and what stands then.
-use Rattle.std.proofs.Common.{◌≡◌, ◌≤◌, ℕ, List, [], ◌∷◌, length, Option, Some, None, Result, Ok, Err, IsErr, refl, sym, subst, ap, ◌∙◌, inl, inr, ⊎_elim, arith}
+use Rattle.std.proofs.Common.{◌≡◌, ◌≤◌, ℕ, List, [], ◌∷◌, length, Option, Some, Result, Ok, Err, IsErr, refl, sym, subst, ap, ◌∙◌, inl, inr, ⊎_elim, arith}
 use Rattle.disk_model.specs.Images.{Image, IsImage, TellsImage, Stays}
 use Rattle.disk_model.specs.Crashes.{DiskState, IsDisk, LeavesOnly, NothingPending}
 use Rattle.disk_model.proofs.Moments.{started, and_then, weakened, at_end}
@@ -12,21 +12,44 @@ use Rattle.table_state.specs.Flat.{HasNoPool}
 use Rattle.table_state.specs.Holding.{Holds, StandsOver}
 use Rattle.table_state.specs.Pools.{Held, new_held}
 use Rattle.txg_sync.specs.Creating.{Creates, HasNoSeal, NoneOrNew}
+use Rattle.txg_sync.specs.Stages.{LeavesBeginning, LeavesUnbegun}
+use Rattle.txg_sync.proofs.Taking.{stays_some}
 use Rattle.session.specs.Faults.{status_of}
 use Rattle.session.specs.Crashing.{MayHold}
 use Rattle.session.specs.Entries.{IsLawfulSize}
 use Rattle.session.specs.Looking.{new_on}
-use Rattle.session.specs.StageMaking.{IsNewPool, MakingCrashes, Makes}
+use Rattle.session.specs.StageMaking.{IsNewPool, IsNotMade, MakingCrashes, Makes}
+use Rattle.session.specs.Staying.{StaysSo, StaysUncreated}
 use Rattle.session.specs.declared.status.Status.{Status}
+use Rattle.session.specs.declared.status.Status.TheVariants.{Done, Usage, BadFile, SourceFault, SinkFault, ReadFault, WriteFault, NoPool, Damaged, OutOfMemory, PoolExists, BadSize, LastGroup}
+use Rattle.session.specs.declared.words.Word.{Word}
+use Rattle.session.specs.declared.words.Word.TheVariants.{Run, Make}
 
--- told contents that stay are the same
-pub stays_told : (image : Image) (old new : Option Image) → old ≡ Some image → Stays old new → new ≡ Some image
-stays_told image old new told stays = subst (λ (o : Option Image). Stays o new) told stays
-
--- and with nothing pending they are told so
+-- told contents with nothing pending are told so
 pub still_pending : (image : Image) (old : Option Image) (may_leave : Image → Type 0) → old ≡ Some image → NothingPending old may_leave
     → NothingPending (Some image) may_leave
 still_pending image old may_leave told pending = subst (λ (o : Option Image). NothingPending o may_leave) told pending
+
+module _ (tag : ℕ) (image : Image) where
+  -- whatever ended it, what is told may be what was told
+  pub still_told : (status : Status) (now : Option Image) → now ≡ Some image → StaysUncreated status tag image now
+  still_told WriteFault now told = (image, told, record { shows = inl refl; outside = record { count = refl; others = λ at gate body. refl } })
+  still_told Done now told = tt
+  still_told SinkFault now told = tt
+  still_told Usage now told = told
+  still_told (BadFile line kind) now told = told
+  still_told SourceFault now told = told
+  still_told ReadFault now told = told
+  still_told NoPool now told = told
+  still_told (Damaged sector) now told = told
+  still_told OutOfMemory now told = told
+  still_told (PoolExists group) now told = told
+  still_told (BadSize n) now told = told
+  still_told (LastGroup group) now told = told
+
+  pub still_so : (status : Status) (word : Word) (now : Option Image) → now ≡ Some image → StaysSo status word tag image now
+  still_so status Run now told = told
+  still_so status Make now told = still_told status now told
 
 module _ (tag : ℕ) (image : Image) (old : DiskState) where
   -- what leaves only what stood leaves what is found to be the same
@@ -35,24 +58,27 @@ module _ (tag : ℕ) (image : Image) (old : DiskState) where
   still_held pending stands run = weakened (MayHold tag image stands) run (λ c left. inl (inl (pending.1 c left)))
 
   -- no pool was begun
-  pub not_begun : {new : DiskState} (status : Status) → LeavesOnly old new old.may_leave
-      → ((c : Image) → new.may_leave c → old.may_leave c) → NothingPending (Some image) old.may_leave → MakingCrashes old new tag image status
-  not_begun status run no_more pending = record {
-    stands = [];
-    may_stand = inl refl;
-    any_moment = still_held pending [] run;
-    at_return = λ c left. inl (inl (pending.1 c (no_more c left)));
+  pub not_begun : {new : DiskState} (status : Status) → new.seen ≡ Some image → LeavesOnly old new old.may_leave
+      → ((c : Image) → new.may_leave c → old.may_leave c) → IsNotMade old new tag image status
+  not_begun {new} status told run no_more = record {
+    stays = still_told tag image status new.seen told;
+    crash = λ pending. record {
+      stands = [];
+      may_stand = inl refl;
+      any_moment = still_held pending [] run;
+      at_return = λ c left. inl (inl (pending.1 c (no_more c left)));
+    };
   }
 
   -- the same of a result that is an error
-  pub not_begun_at : {new : DiskState} (result : Result Held Status) → IsErr result → LeavesOnly old new old.may_leave
-      → ((c : Image) → new.may_leave c → old.may_leave c) → Makes old new tag image result
-  not_begun_at (Ok held) failed run no_more = absurd (cc failed)
-  not_begun_at (Err status) failed run no_more = not_begun status run no_more
+  pub not_begun_at : {new : DiskState} (result : Result Held Status) → IsErr result → new.seen ≡ Some image
+      → LeavesOnly old new old.may_leave → ((c : Image) → new.may_leave c → old.may_leave c) → Makes old new tag image result
+  not_begun_at (Ok held) failed told run no_more = absurd (cc failed)
+  not_begun_at (Err status) failed told run no_more = not_begun status told run no_more
 
   -- no device was called
-  pub not_called : (status : Status) → IsDisk old → NothingPending (Some image) old.may_leave → MakingCrashes old old tag image status
-  not_called status is = not_begun status (started old.may_leave is.only_now) (λ c left. left)
+  pub not_called : (status : Status) → old.seen ≡ Some image → IsDisk old → IsNotMade old old tag image status
+  not_called status told is = not_begun status told (started old.may_leave is.only_now) (λ c left. left)
 
   -- before a pool was begun nothing was changed
   pub made_behind : (mid new : DiskState) (result : Result Held Status) → LeavesOnly old mid old.may_leave
@@ -64,14 +90,17 @@ module _ (tag : ℕ) (image : Image) (old : DiskState) where
     over = made.over;
     crash = λ pending. and_then (still_held pending (new_on image ∷ []) run) (made.crash quiet);
   }
-  made_behind mid new (Err status) run quiet made = λ pending.
-      let crashes = made quiet in
-      record {
-        stands = crashes.stands;
-        may_stand = crashes.may_stand;
-        any_moment = and_then (still_held pending crashes.stands run) crashes.any_moment;
-        at_return = crashes.at_return;
-      }
+  made_behind mid new (Err status) run quiet made = record {
+    stays = made.stays;
+    crash = λ pending.
+        let crashes = made.crash quiet in
+        record {
+          stands = crashes.stands;
+          may_stand = crashes.may_stand;
+          any_moment = and_then (still_held pending crashes.stands run) crashes.any_moment;
+          at_return = crashes.at_return;
+        };
+  }
 
 module _ (tag sectors : ℕ) (image : Image) (old new : DiskState) (told : old.seen ≡ Some image) (tells : TellsImage sectors old.seen)
     (enough : fewest_sectors ≤ sectors) (few : sectors ≤ most_sectors) (no_seal : HasNoSeal old.seen) where
@@ -91,7 +120,22 @@ module _ (tag sectors : ℕ) (image : Image) (old new : DiskState) (told : old.s
   while_made : LeavesOnly old new (NoneOrNew tag sectors) → LeavesOnly old new (MayHold tag image (new_on image ∷ []))
   while_made run = weakened (MayHold tag image (new_on image ∷ [])) run begun_or_none
 
-  -- the making failed
+  -- what is told where the making failed
+  pub told_unmade : (fault : SyncFault) → (fault ≡ syncs.ReadFault → Stays old.seen new.seen)
+      → (fault ≡ syncs.WriteFault → LeavesUnbegun old.seen new.seen) → (fault ≡ syncs.GateFault → LeavesBeginning tag old.seen new.seen)
+      → (fault ≡ syncs.Memory → new.seen ≡ old.seen) → ((sector : ℕ) → fault ≡ syncs.Damaged sector → ⊥)
+      → StaysUncreated (status_of fault) tag image new.seen
+  told_unmade syncs.ReadFault unread before at unwritten whole = stays_some image old.seen new.seen told (unread refl)
+  told_unmade syncs.WriteFault unread before at unwritten whole =
+      let left : LeavesUnbegun (Some image) new.seen = subst (λ (o : Option Image). LeavesUnbegun o new.seen) told (before refl) in
+      (left.0, left.1, record { shows = inr (none, inl left.2.none); outside = left.2.outside })
+  told_unmade syncs.GateFault unread before at unwritten whole =
+      let left : LeavesBeginning tag (Some image) new.seen = subst (λ (o : Option Image). LeavesBeginning tag o new.seen) told (at refl) in
+      (left.0, left.1, record { shows = inr (none, left.2.shows); outside = left.2.outside })
+  told_unmade (syncs.Damaged sector) unread before at unwritten whole = absurd (whole sector refl)
+  told_unmade syncs.Memory unread before at unwritten whole = unwritten refl ∙ told
+
+  -- what a crash leaves then
   pub not_made : (fault : SyncFault) → IsDisk new → (NothingPending (Some image) old.may_leave → LeavesOnly old new (NoneOrNew tag sectors))
       → (fault ≡ syncs.WriteFault → NothingPending (Some image) old.may_leave → LeavesOnly old new HasNoPool)
       → (fault ≡ syncs.ReadFault → (c : Image) → new.may_leave c → old.may_leave c)

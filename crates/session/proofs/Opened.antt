@@ -1,5 +1,5 @@
 -- A session's pool, where it was opened and where it was not.
-use Rattle.std.proofs.Common.{◌≡◌, ◌≤◌, ◌<◌, ◌⊎◌, ℕ, true, List, [], ◌∷◌, length, Option, Some, None, Result, Ok, Err, IsErr, refl, sym, subst, ◌∙◌, inl, inr}
+use Rattle.std.proofs.Common.{◌≡◌, ◌≤◌, ◌<◌, ◌⊎◌, ℕ, List, [], ◌∷◌, Some, None, Result, Ok, Err, IsErr, refl, sym, subst, ◌∙◌, inl, inr}
 use Rattle.std.specs.Prelude.{IsErrOf, MatchResult}
 use Rattle.disk_model.specs.Images.{Image}
 use Rattle.disk_model.specs.Crashes.{DiskState, LeavesOnly, NothingPending}
@@ -14,12 +14,12 @@ use Rattle.session.specs.Entries.{IsLawfulSize, last_start}
 use Rattle.session.specs.Looking.{MayBeCreated, new_on}
 use Rattle.session.specs.StageFinding.{IsLeft, IsThere}
 use Rattle.session.specs.StageMaking.{Makes, MakeCause}
-use Rattle.session.specs.StageOpening.{IsOpened, Opens}
-use Rattle.session.specs.Running.{CrashesEarly, HasCauseFor, MayStand, SizedSo}
+use Rattle.session.specs.StageOpening.{IsNotOpened, IsOpened, Opens}
+use Rattle.session.specs.Running.{HasCauseFor, MayStand, SizedSo}
 use Rattle.session.specs.declared.status.Status.{Status}
 use Rattle.session.specs.declared.status.Status.TheVariants.{LastGroup}
 use Rattle.session.specs.declared.words.Word.TheVariants.{Run, Make}
-use Rattle.session.proofs.Causes.{when_told, make_sized}
+use Rattle.session.proofs.Causes.{when_told, sized_so}
 
 -- what stands in the image of a pool that was found
 module _ (disk : DiskState) (tag : ℕ) (image : Image) (held : Held) (there : IsThere disk tag image held) where
@@ -51,31 +51,37 @@ module _ (old new : DiskState) (tag : ℕ) (image : Image) where
     -- no pool was found
     pub not_found_at : (result : Result Held Status) (sealed : ℕ) → IsErr result → sealed ≡ 0 → Opens old new Run tag image sealed result
     not_found_at (Ok held) sealed failed none = absurd (cc failed)
-    not_found_at (Err status) sealed failed none = λ quiet. record {
-      stands = [];
-      may_stand = inl refl;
-      crash = record {
-        any_moment = still_held quiet [];
-        at_return = λ c now. inl (none, inl (inl (left.at_return quiet c now)));
+    not_found_at (Err status) sealed failed none = record {
+      stays = left.told;
+      crash = λ quiet. record {
+        stands = [];
+        may_stand = inl refl;
+        crash = record {
+          any_moment = still_held quiet [];
+          at_return = λ c now. inl (none, inl (inl (left.at_return quiet c now)));
+        };
       };
     }
 
     -- its group is too high
     pub too_late : (held : Held) (group : ℕ) → IsThere new tag image held → group ≡ held.group
-        → NothingPending (Some image) old.may_leave → CrashesEarly old new Run tag image group (LastGroup group)
-    too_late held group there same quiet =
+        → IsNotOpened old new Run tag image group (LastGroup group)
+    too_late held group there same =
         let s = found new tag image held there in
         let holds = holds_found new tag image held there in
         record {
-          stands = s ∷ [];
-          may_stand = inr (s, refl, holds);
-          crash = record {
-            any_moment = still_held quiet (s ∷ []);
-            at_return = λ c now.
-                inr (inl (
-                  group_found new tag image held there group same,
-                  inl (subst (λ i. Holds tag i s) (sym (left.at_return quiet c now)) holds),
-                ));
+          stays = left.told;
+          crash = λ quiet. record {
+            stands = s ∷ [];
+            may_stand = inr (s, refl, holds);
+            crash = record {
+              any_moment = still_held quiet (s ∷ []);
+              at_return = λ c now.
+                  inr (inl (
+                    group_found new tag image held there group same,
+                    inl (subst (λ i. Holds tag i s) (sym (left.at_return quiet c now)) holds),
+                  ));
+            };
           };
         }
 
@@ -108,21 +114,15 @@ module _ (old new : DiskState) (tag : ℕ) (image : Image) where
   pub not_made_at : (result : Result Held Status) (sealed : ℕ) → IsErr result → sealed ≡ 0
       → Makes old new tag image result → Opens old new Make tag image sealed result
   not_made_at (Ok held) sealed failed none made = absurd (cc failed)
-  not_made_at (Err status) sealed failed none made = λ quiet.
-      let is = made quiet in
-      record {
-        stands = is.stands;
-        may_stand = made_or_none is.stands is.may_stand;
-        crash = record { any_moment = is.any_moment; at_return = λ c now. inl (none, is.at_return c now) };
-      }
-
-  -- the new pool is open
-  pub new_open : (held : Held) → Makes old new tag image (Ok held) → IsOpened old new Make tag image held
-  new_open held is = record {
-    s = new_on image;
-    begins = record { none = is.none; lawful = is.lawful; new = refl };
-    over = is.over;
-    crash = is.crash;
+  not_made_at (Err status) sealed failed none made = record {
+    stays = made.stays;
+    crash = λ quiet.
+        let is = made.crash quiet in
+        record {
+          stands = is.stands;
+          may_stand = made_or_none is.stands is.may_stand;
+          crash = record { any_moment = is.any_moment; at_return = λ c now. inl (none, is.at_return c now) };
+        };
   }
 
 -- a size that is not lawful is told
@@ -130,4 +130,4 @@ pub not_made_sized : {T : Type 0} (old new : DiskState) (result : Result T Statu
     → ((status : Status) → IsErrOf result status → MakeCause status old new) → (IsLawfulSize old.sectors → ⊥)
     → MatchResult result (λ held. ⊥) (λ status. SizedSo status Unit)
 not_made_sized old new (Ok held) failed cause unlawful = absurd (cc failed)
-not_made_sized old new (Err status) failed cause unlawful = make_sized old new Unit tt status (cause status refl) unlawful
+not_made_sized old new (Err status) failed cause unlawful = sized_so old new Unit unlawful status (cause status refl) (λ n same. tt)

@@ -1,16 +1,14 @@
 -- A group whose lanes were run is sealed, or the session ends in its sync.
-use Rattle.std.proofs.Common.{◌≡◌, ◌∙◌, ◌≤◌, ◌+◌, ℕ, Bool, true, false, cond, Option, Some, None, Result, Err, List, [], ◌∷◌, length, map, take, refl, sym, ap, subst, inl, inr, ⊎_elim, arith}
-use Rattle.std.specs.Prelude.{◌⊎◌, ◌≢◌, not, unwrap_or, IsErrOf}
+use Rattle.std.proofs.Common.{◌≡◌, ◌∙◌, ◌≤◌, ◌+◌, ℕ, Bool, true, false, cond, Option, Some, None, List, [], ◌∷◌, length, map, take, refl, sym, ap, subst, inl, inr, ⊎_elim, arith}
+use Rattle.std.specs.Prelude.{◌⊎◌, ◌≢◌, not, unwrap_or}
 use Rattle.std.specs.List.{count_by}
 use Rattle.std.proofs.lemmas.Bool.{eq-eqb}
 use Rattle.std.proofs.lemmas.List.{length-map}
 use Rattle.std.proofs.Math.Nat.{mod-lt}
-use Rattle.disk_model.specs.Images.{Image, Stays, sector_at}
+use Rattle.disk_model.specs.Images.{Image, Stays}
 use Rattle.disk_model.specs.Crashes.{DiskState, IsDisk, LeavesOnly, NothingPending}
 use Rattle.disk_model.proofs.Moments.{weakened, at_end}
 use Rattle.ddt_entry.specs.Keys.{Keying}
-use Rattle.ddt_entry.specs.declared.key.Key.{Key}
-use Rattle.ddt_entry.specs.declared.entry.Home.{Home}
 use Rattle.uber_ring.specs.Ring.{gate_sector, body_sector, slot_of}
 use Rattle.pool_model.specs.declared.faults.SyncFault.{SyncFault}
 use Rattle.pool_model.specs.declared.faults.SyncFault.TheVariants as syncs
@@ -19,23 +17,23 @@ use Rattle.pool_model.specs.declared.notes.Outcome.TheVariants.{Sealed, Cut}
 use Rattle.pool_model.specs.Pool.{Pool}
 use Rattle.pool_model.specs.Table.{TableState, flush_limit}
 use Rattle.pool_model.specs.Plain.{Task, lanes, LaneTold, Told}
-use Rattle.pool_model.specs.Space.{need, space_lacking, changes_in, writes_in, used_sectors, free_count, image_pages}
-use Rattle.pool_model.specs.Group.{Standing, Rules, lanes_of, lanes_in_turn, AreFresh, IsFree}
+use Rattle.pool_model.specs.Space.{need, space_lacking, changes_in, writes_in, free_count, image_pages}
+use Rattle.pool_model.specs.Group.{Standing, Rules, lanes_of, lanes_in_turn}
 use Rattle.pool_model.specs.Run.{HasFlatRoom, given_by, sealed_standing}
 use Rattle.pool_model.specs.Crash.{AnyStands, StandsAt, has_its_lanes, begun_by}
 use Rattle.pool_model.proofs.Kept.{clash_kept}
-use Rattle.table_state.specs.Flat.{StandsFor}
 use Rattle.table_state.specs.Pools.{Held, IsHeld}
 use Rattle.table_state.specs.Holding.{Holds, StandsOver, WaitingStand}
-use Rattle.table_state.specs.Closing.{PlainClosed, CanSyncOver, pages_of, pool_with, records_after, standing_with, table_after}
-use Rattle.table_state.proofs.Held.{holds_over, standing_over, stands_as_held}
+use Rattle.table_state.specs.Closing.{PlainClosed, CanSyncOver, pages_of, records_after, standing_with, table_after}
+use Rattle.table_state.proofs.Held.{standing_over, stands_as_held}
 use Rattle.table_state.proofs.RoomLaws.{sealed_pages}
 use Rattle.txg_sync.specs.Syncing.{BeforeGate, IsSynced, KeepsNamed, SyncLeaves, Syncs}
 use Rattle.lane_run.specs.Groups.{IsRunFrom, KeepsWaiting}
 use Rattle.session.specs.Faults.{status_of}
-use Rattle.session.specs.StageEntries.{IsOver, StandsForTold}
+use Rattle.session.specs.StageEntries.{StandsForTold}
 use Rattle.session.specs.StageGroups.{HasRunOver, GroupEnded, GroupCut, group_step}
 use Rattle.session.specs.Running.{is_write_fault}
+use Rattle.session.proofs.Over.{over_leaves}
 
 -- ---- What stands after a group
 
@@ -189,7 +187,7 @@ module _ (keying : Keying) (old new : DiskState) (held : Held) (s : Standing) (m
   -- it stands where it stood
   still_at : (failed : Bool) (rest : List Standing) (c : Image) → old.may_leave c → StandsAt (Holds keying.tag c) failed s.pool.group (s ∷ rest)
   still_at failed rest c left =
-      inl (refl, inl (subst (λ (d : Image). Holds keying.tag d s) (sym (ran.over.quiet.1 c left)) (before_holds ran.over.image (holds_over ran.over.image held s stood))))
+      inl (refl, inl (over_leaves old held s keying.tag ran.over ran.tag_is c left))
 
   -- what a crash leaves at return after a fault
   module _ (pages : List ℕ) (here : IsDisk new) (run : LeavesOnly old new (Leaves pages)) where

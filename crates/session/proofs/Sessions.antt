@@ -1,12 +1,10 @@
 -- A session from its opening to its end.
-use Rattle.std.proofs.Common.{◌≡◌, ◌≤◌, ◌<◌, ◌+◌, ◌-◌, ◌^◌, ℕ, Bool, true, false, min, List, [], ◌∷◌, ◌++◌, Option, Some, None, refl, sym, subst, ◌∙◌, inl, inr, ⊎_elim, arith}
-use Rattle.std.specs.Prelude.{IfSome}
+use Rattle.std.proofs.Common.{◌≡◌, ◌≤◌, ◌<◌, ◌+◌, ◌-◌, ◌^◌, ℕ, true, false, min, List, [], ◌∷◌, Option, Some, None, refl, sym, subst, ◌∙◌, inl, inr, ⊎_elim, arith}
 use Rattle.std.proofs.lemmas.Bool.Decides.{nat_tests}
-use Rattle.std.specs.Io.KnownBytes.{Keeps}
 use Rattle.std.proofs.KnownBytes.{Keeps-refl}
 use Rattle.io_model.specs.Outside.{Rose}
 use Rattle.disk_model.specs.Images.{Image}
-use Rattle.disk_model.specs.Crashes.{DiskState, IsDisk, LeavesOnly, NothingPending}
+use Rattle.disk_model.specs.Crashes.{DiskState, IsDisk, LeavesOnly}
 use Rattle.disk_model.proofs.Moments.{started, weakened, and_then}
 use Rattle.pool_model.specs.declared.notes.Session.{Session}
 use Rattle.pool_model.specs.Plain.{Part}
@@ -18,22 +16,22 @@ use Rattle.pool_model.proofs.Stands.{any_left, at_last}
 use Rattle.table_state.specs.Flat.{HasNoPool, IsDamaged}
 use Rattle.table_state.specs.Holding.{Holds}
 use Rattle.table_state.specs.Pools.{Held}
-use Rattle.table_state.proofs.Held.{holds_over}
 use Rattle.session.specs.Crashing.{MayHold}
 use Rattle.session.specs.Devices.{Devices, between}
 use Rattle.session.specs.Entries.{last_start}
 use Rattle.session.specs.Origins.{Origin, origin, at_end, of_words, of_file, of_size, of_pool, of_image, of_disk, of_memory, of_output, may_begin, may_not_begin, is_before_devices}
-use Rattle.session.specs.Running.{HasBegunItems, HasNotBegun, IsUntouched, CrashesEarly, HasCauseFor, RoseBeyond, imported_by, is_write_fault, told_in}
+use Rattle.session.specs.Running.{HasBegunItems, HasNotBegun, HasCauseFor, RoseBeyond, imported_by, told_in}
 use Rattle.session.specs.StageGoing.{GoesOn, StopsIn, is_of_devices}
 use Rattle.session.specs.StageItems.{may_end_item}
-use Rattle.session.specs.StageOpening.{IsOpened, may_end_opening}
-use Rattle.session.specs.Stopping.{IsKept, WasCut, WentSo}
+use Rattle.session.specs.StageOpening.{IsNotOpened, IsOpened, may_end_opening}
+use Rattle.session.specs.Stopping.{WasCut, WentSo}
 use Rattle.session.specs.declared.status.Status.{Status}
 use Rattle.session.specs.declared.status.Status.TheVariants.{Done, Usage, BadFile, SourceFault, SinkFault, ReadFault, WriteFault, NoPool, Damaged, OutOfMemory, PoolExists, BadSize, LastGroup}
 use Rattle.session.specs.declared.words.Word.{Word}
 use Rattle.session.specs.declared.words.Word.TheVariants.{Run}
 use Rattle.session.proofs.Causes.{when_told}
-use Rattle.session.proofs.ItemsGone.{over_leaves}
+use Rattle.session.proofs.Made.{still_so}
+use Rattle.session.proofs.Over.{over_holds, over_leaves}
 
 -- the devices from an earlier state of the disk on
 abbrev pub since : DiskState → Devices → Devices
@@ -42,13 +40,14 @@ since start devices = between start devices.after devices.written devices.now de
 module _ (word : Word) (tag : ℕ) (image : Image) where
   -- nothing was done: a crash leaves what stood
   pub untouched : (disk : DiskState) (written : Option (List ℕ)) (sink : ℕ) (session : Session) (status : Status)
-      → IsDisk disk → session.groups.items ≡ [] → session.sealed ≡ 0 → imported_by status ≡ 0 → may_not_begin (origin status) ≡ true
-      → HasNotBegun (between disk disk written written sink sink) word tag image session status
-  untouched disk written sink session status is groups sealed none early = record {
+      → disk.seen ≡ Some image → IsDisk disk → session.groups.items ≡ [] → session.sealed ≡ 0 → imported_by status ≡ 0
+      → may_not_begin (origin status) ≡ true → HasNotBegun (between disk disk written written sink sink) word tag image session status
+  untouched disk written sink session status told is groups sealed none early = record {
     groups = groups;
     sealed = sealed ∙ sym none;
     unwritten = Keeps-refl written;
     early = early;
+    stays = still_so tag image status word disk.seen told;
     crash = λ quiet. record {
       stands = [];
       may_stand = inl refl;
@@ -62,10 +61,10 @@ module _ (word : Word) (tag : ℕ) (image : Image) where
   -- no pool was opened
   pub not_opened : (start end : DiskState) (written : Option (List ℕ)) (sink : ℕ) (session : Session) (status : Status)
       → session.groups.items ≡ [] → session.sealed ≡ imported_by status → may_not_begin (origin status) ≡ true
-      → (NothingPending (Some image) start.may_leave → CrashesEarly start end word tag image session.sealed status)
+      → IsNotOpened start end word tag image session.sealed status
       → HasNotBegun (between start end written written sink sink) word tag image session status
-  not_opened start end written sink session status groups sealed early crash =
-      record { groups = groups; sealed = sealed; unwritten = Keeps-refl written; early = early; crash = crash }
+  not_opened start end written sink session status groups sealed early is =
+      record { groups = groups; sealed = sealed; unwritten = Keeps-refl written; early = early; stays = is.stays; crash = is.crash }
 
   -- what a crash leaves of the opening and of the items
   crash_whole : {start mid end : DiskState} (s : Standing) (stands : List Standing) → LeavesOnly start mid (MayHold tag image (s ∷ []))
@@ -129,7 +128,7 @@ module _ (start : DiskState) (devices : Devices) (word : Word) (rules : Rules) (
                     image = going.over.image;
                     told = going.over.told;
                     quiet = going.over.quiet;
-                    holds = subst (λ (t : ℕ). Holds t going.over.image at) tag_is (holds_over going.over.image last at going.over.stands);
+                    holds = over_holds devices.after last at tag going.over tag_is;
                   };
                 };
                 crash = λ quiet. record {

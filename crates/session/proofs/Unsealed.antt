@@ -1,30 +1,30 @@
 -- A group that wasn't sealed: for want of room, or because a device or memory failed before its sync.
-use Rattle.std.proofs.Common.{◌≡◌, ◌∙◌, ◌≤◌, ◌+◌, ℕ, Option, Some, None, Result, Ok, Err, List, [], ◌∷◌, length, refl, sym, ap, subst, inl, inr}
-use Rattle.std.specs.Prelude.{not, unwrap_or, IsErrOf}
+use Rattle.std.proofs.Common.{◌≡◌, ◌∙◌, ◌+◌, ℕ, Option, Some, None, Result, Ok, Err, List, [], ◌∷◌, length, refl, sym, ap, subst, inl}
+use Rattle.std.specs.Prelude.{not, unwrap_or}
 use Rattle.std.specs.List.{count_by}
 use Rattle.disk_model.specs.Images.{Image, Stays}
-use Rattle.disk_model.specs.Crashes.{DiskState, LeavesOnly, NothingPending, SameOutcomes}
+use Rattle.disk_model.specs.Crashes.{DiskState, LeavesOnly, SameOutcomes}
 use Rattle.disk_model.proofs.Moments.{and_then, weakened}
 use Rattle.ddt_entry.specs.Keys.{Keying}
 use Rattle.pool_model.specs.declared.faults.GroupFault.{GroupFault}
 use Rattle.pool_model.specs.declared.faults.GroupFault.TheVariants as groups
 use Rattle.pool_model.specs.declared.notes.Outcome.{Outcome}
 use Rattle.pool_model.specs.declared.notes.Outcome.TheVariants.{Sealed, NoSpace, Cut}
-use Rattle.pool_model.specs.Plain.{Task, GroupItem, lanes, Told}
+use Rattle.pool_model.specs.Plain.{Task, lanes, Told}
 use Rattle.pool_model.specs.Space.{need, space_lacking, changes_in, writes_in}
 use Rattle.pool_model.specs.Table.{flush_limit}
 use Rattle.pool_model.specs.Group.{Standing, lanes_in_turn}
 use Rattle.pool_model.specs.Run.{sealed_standing}
-use Rattle.pool_model.specs.Crash.{AnyStands, StandsAt, begun_by}
+use Rattle.pool_model.specs.Crash.{AnyStands, begun_by}
 use Rattle.table_state.specs.Closing.{PlainClosed}
 use Rattle.table_state.specs.Holding.{Holds, StandsOver}
 use Rattle.table_state.specs.Pools.{Held}
-use Rattle.table_state.proofs.Held.{holds_over}
 use Rattle.lane_run.specs.Groups.{HasNoClash, IsRunFrom}
 use Rattle.session.specs.StageEntries.{IsOver}
 use Rattle.session.specs.StageGroups.{GroupCut, GroupEnded, GroupWent, HasRunOver, group_step, new_told, outcome_by, refused_by}
 use Rattle.session.specs.declared.status.Status.{Status}
 use Rattle.session.specs.declared.status.Status.TheVariants.{ReadFault, WriteFault, Damaged, OutOfMemory}
+use Rattle.session.proofs.Over.{over_leaves}
 use Rattle.session.proofs.Sealing.{same_lacking}
 
 -- a group is lacking room
@@ -33,16 +33,10 @@ lacks_room held tasks =
     space_lacking (count_by not held.used) (need (length held.pages) (flush_limit held.table) (changes_in tasks) (writes_in tasks))
 
 module _ (old : DiskState) (keying : Keying) (held : Held) (s : Standing) (over : IsOver old held s) (tag_is : held.tag ≡ keying.tag) where
-  -- a crash leaves what stands
-  pub holds_now : (c : Image) → old.may_leave c → Holds keying.tag c s
-  holds_now c left =
-      subst (λ (d : Image). Holds keying.tag d s) (sym (over.quiet.1 c left))
-      (subst (λ t. Holds t over.image s) tag_is (holds_over over.image held s over.stands))
-
-  -- at each moment of calls that leave no more it does so
+  -- a crash leaves what stands at each moment of calls that leave no more
   pub nothing_new : {new : DiskState} (rest : List Standing) → LeavesOnly old new old.may_leave
       → LeavesOnly old new (λ c. AnyStands (Holds keying.tag c) (s ∷ rest))
-  nothing_new rest run = weakened (λ c. AnyStands (Holds keying.tag c) (s ∷ rest)) run (λ c left. inl (holds_now c left))
+  nothing_new rest run = weakened (λ c. AnyStands (Holds keying.tag c) (s ∷ rest)) run (λ c left. inl (over_leaves old held s keying.tag over tag_is c left))
 
   -- after calls that write nothing
   module _ (new : DiskState) (stays : Stays old.seen new.seen) (same : SameOutcomes old.may_leave new.may_leave) (run : LeavesOnly old new old.may_leave) where
@@ -69,7 +63,7 @@ module _ (old : DiskState) (keying : Keying) (held : Held) (s : Standing) (over 
             did = inl refl;
           };
           crash = nothing_new _ run;
-          at_return = λ c left. inl (refl, inl (holds_now c (same.no_more c left)));
+          at_return = λ c left. inl (refl, inl (over_leaves old held s keying.tag over tag_is c (same.no_more c left)));
         })
 
     -- and for want of room
@@ -98,21 +92,18 @@ module _ (old : DiskState) (keying : Keying) (held : Held) (s : Standing) (over 
         → answer ≡ refused_by fault → told ≡ new_told (held.group + 1) (outcome_by fault)
         → ((needed left : ℕ) → fault ≡ groups.NoSpace needed left → lacks_room held tasks ≡ Some (NoSpace needed left))
         → GroupWent old new (lanes_in_turn keying) s (lanes moment tasks) told held answer
-    refused_went moment tasks (groups.NoSpace needed left) told answer answered is lacks =
+    refused_went moment tasks fault told answer answered is lacks =
         subst (λ (r : Result Unit Status). GroupWent old new (lanes_in_turn keying) s (lanes moment tasks) told held r) (sym answered)
-        (lacked moment tasks told needed left is (lacks needed left refl))
-    refused_went moment tasks groups.ReadFault told answer answered is lacks =
-        subst (λ (r : Result Unit Status). GroupWent old new (lanes_in_turn keying) s (lanes moment tasks) told held r) (sym answered)
-        (cut_before moment tasks told ReadFault is)
-    refused_went moment tasks groups.WriteFault told answer answered is lacks =
-        subst (λ (r : Result Unit Status). GroupWent old new (lanes_in_turn keying) s (lanes moment tasks) told held r) (sym answered)
-        (cut_before moment tasks told WriteFault is)
-    refused_went moment tasks (groups.Damaged sector) told answer answered is lacks =
-        subst (λ (r : Result Unit Status). GroupWent old new (lanes_in_turn keying) s (lanes moment tasks) told held r) (sym answered)
-        (cut_before moment tasks told (Damaged sector) is)
-    refused_went moment tasks groups.Memory told answer answered is lacks =
-        subst (λ (r : Result Unit Status). GroupWent old new (lanes_in_turn keying) s (lanes moment tasks) told held r) (sym answered)
-        (cut_before moment tasks told OutOfMemory is)
+        (by_fault fault is lacks)
+      where
+        by_fault : (fault : GroupFault) → told ≡ new_told (held.group + 1) (outcome_by fault)
+            → ((needed left : ℕ) → fault ≡ groups.NoSpace needed left → lacks_room held tasks ≡ Some (NoSpace needed left))
+            → GroupWent old new (lanes_in_turn keying) s (lanes moment tasks) told held (refused_by fault)
+        by_fault (groups.NoSpace needed left) is lacks = lacked moment tasks told needed left is (lacks needed left refl)
+        by_fault groups.ReadFault is lacks = cut_before moment tasks told ReadFault is
+        by_fault groups.WriteFault is lacks = cut_before moment tasks told WriteFault is
+        by_fault (groups.Damaged sector) is lacks = cut_before moment tasks told (Damaged sector) is
+        by_fault groups.Memory is lacks = cut_before moment tasks told OutOfMemory is
 
     -- a group whose lanes have run, at the disk as they left it
     pub has_run : (moment : ℕ) (tasks : List Task) (told : Told) (closed : PlainClosed) → HasNoClash keying.key_of s moment tasks

@@ -1,6 +1,7 @@
 pub mod Running
 pub mod Stopping
 pub mod Crashing
+pub mod Staying
 pub mod Entries
 pub mod Looking
 pub mod Devices

@@ -13,6 +13,7 @@ use Rattle.table_state.specs.Holding.{Holds}
 use Rattle.session.specs.Devices.{Devices}
 use Rattle.session.specs.Crashing.{SameFound, MayHold}
 use Rattle.session.specs.Entries.{IsLawfulSize}
+use Rattle.session.specs.Staying.{StaysUncreated}
 use Rattle.session.specs.Stopping.{IsKept}
 use Rattle.session.specs.Running.{HasNewest}
 use Rattle.session.specs.declared.status.Status.{Status}
@@ -58,9 +59,10 @@ pub record CreationCrashes (before after : DiskState) (tag : ℕ) (image : Image
   pub any_moment : LeavesOnly before after (MayHold tag image stands)
   pub at_return : (c : Image) → after.may_leave c → CreatedAtReturn status tag image c
 
--- a pool was created, or not
+-- a pool was created, or not; then the disk tells what it told, but where a write failed
 pub record Creates (devices : Devices) (tag : ℕ) (image : Image) (status : Status) : Type 0 where
   pub done : CreatedSo status (IsCreated devices.after tag image) devices.written devices.now
+  pub stays : StaysUncreated status tag image devices.after.seen
   pub crash : NothingPending (Some image) devices.before.may_leave → CreationCrashes devices.before devices.after tag image status
 
 abbrev pub ToldSo : Status → (tag : ℕ) → Image → (written now : Option (List ℕ)) → Type 0

@@ -19,6 +19,7 @@ use Rattle.session.specs.Devices.{Devices, Input}
 use Rattle.session.specs.Origins.{origin, may_begin, may_not_begin}
 use Rattle.session.specs.Crashing.{Crashes}
 use Rattle.session.specs.Entries.{BeginsAt, IsLawfulSize, HasNoClashFrom, last_start}
+use Rattle.session.specs.Staying.{StaysSo}
 use Rattle.session.specs.Stopping.{WentSo}
 use Rattle.session.specs.declared.status.Status.{Status}
 use Rattle.session.specs.declared.status.Status.TheVariants.{Done, Usage, BadFile, SourceFault, SinkFault, ReadFault, WriteFault, NoPool, Damaged, OutOfMemory, PoolExists, BadSize, LastGroup}
@@ -85,12 +86,13 @@ pub record CrashesEarly (before after : DiskState) (word : Word) (tag : ℕ) (im
   pub may_stand : (stands ≡ []) ⊎ ((s : Standing) × (stands ≡ s ∷ []) × MayStand word tag image s)
   pub crash : Crashes before after tag image stands (is_write_fault status) sealed
 
--- no item was begun: nothing is noted or written
+-- no item was begun: nothing is noted or written, and the disk tells what it told, but for a new pool whose making failed
 pub record HasNotBegun (devices : Devices) (word : Word) (tag : ℕ) (image : Image) (session : Session) (status : Status) : Type 0 where
   pub groups : session.groups.items ≡ []
   pub sealed : session.sealed ≡ imported_by status
   pub unwritten : Keeps devices.written devices.now
   pub early : may_not_begin (origin status) ≡ true
+  pub stays : StaysSo status word tag image devices.after.seen
   pub crash : NothingPending (Some image) devices.before.may_leave
       → CrashesEarly devices.before devices.after word tag image session.sealed status
 

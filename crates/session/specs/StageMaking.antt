@@ -11,6 +11,7 @@ use Rattle.table_state.specs.Pools.{Held}
 use Rattle.session.specs.Crashing.{SameFound, MayHold}
 use Rattle.session.specs.Entries.{IsLawfulSize}
 use Rattle.session.specs.StageEntries.{IsOver}
+use Rattle.session.specs.Staying.{StaysUncreated}
 use Rattle.session.specs.Looking.{MayBeCreated, new_on}
 use Rattle.session.specs.Running.{HasNewest, is_write_fault}
 use Rattle.session.specs.declared.status.Status.{Status}
@@ -32,10 +33,15 @@ pub record MakingCrashes (old new : DiskState) (tag : ℕ) (image : Image) (stat
   pub at_return : (c : Image) → new.may_leave c
       → SameFound image c ⊎ ((is_write_fault status ≡ true) × FirstStands (Holds tag c) stands)
 
+-- no pool was made
+pub record IsNotMade (old new : DiskState) (tag : ℕ) (image : Image) (status : Status) : Type 0 where
+  pub stays : StaysUncreated status tag image new.seen
+  pub crash : NothingPending (Some image) old.may_leave → MakingCrashes old new tag image status
+
 -- what making a pool came to, by its answer
 abbrev pub Makes : (old new : DiskState) → (tag : ℕ) → Image → Result Held Status → Type 0
 Makes old new tag image (Ok held) = IsNewPool old new tag image held
-Makes old new tag image (Err status) = NothingPending (Some image) old.may_leave → MakingCrashes old new tag image status
+Makes old new tag image (Err status) = IsNotMade old new tag image status
 
 -- why no pool was made; no other status comes
 abbrev pub MakeCause : Status → (old new : DiskState) → Type 0

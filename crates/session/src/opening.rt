@@ -1,14 +1,12 @@
 //! How a session's pool is opened: the one on the disk is imported, or a new one is made.
 
-ghost use Rattle.std.specs.Prelude.{◌≡◌, ◌≤◌, ℕ, [], true, Some, None, IfOk, IsErrOf, MatchResult};
+ghost use Rattle.std.specs.Prelude.{◌≡◌, ◌≤◌, ℕ, Some, IfOk, IsErrOf, MatchResult};
 ghost use Rattle.disk_model.specs.Images.{Image};
 ghost use Rattle.pool_model.specs.declared.notes.Session.{Session};
-ghost use Rattle.session.specs.Devices.{between};
 ghost use Rattle.session.specs.Entries.{IsLawfulSize, last_start};
-ghost use Rattle.session.specs.Origins.{origin};
-ghost use Rattle.session.specs.Running.{HasCauseFor, SizedSo, imported_by};
+ghost use Rattle.session.specs.Running.{SizedSo};
 ghost use Rattle.session.specs.StageEntries.{IsOnDisk};
-ghost use Rattle.session.specs.StageOpening.{Opens, may_end_opening};
+ghost use Rattle.session.specs.StageOpening.{EndsOpening, Opens};
 ghost use Rattle.session.specs.declared.status.Status.{Status};
 ghost use Rattle.session.specs.declared.words.Word.{Word};
 
@@ -42,13 +40,11 @@ pub(crate) fn open_pool<D: Disk, K: KeyOf>(
     ensures sealed { IfOk result (λ pool. session.new.sealed ≡ pool.group) }
     ensures opened { (image : Image) → (D.state disk.old).seen ≡ Some image
         → Opens (D.state disk.old) (D.state disk.new) word (K.keying keyer.now).tag image session.new.sealed result }
-    ensures unopened { (status : Status) → IsErrOf result status → session.new.sealed ≡ imported_by status }
     ensures sized { (n : ℕ) → IsErrOf result (Status.BadSize n) → (disk.new ≡ disk.old) × (session.new.sealed ≡ 0) }
     ensures unlawful { word ≡ Word.Make → (IsLawfulSize (D.state disk.old).sectors → ⊥)
         → MatchResult result (λ _. ⊥) (λ status. SizedSo status Unit) }
-    ensures cause { (status : Status) → IsErrOf result status → HasCauseFor status word (K.keying keyer.now).tag
-        (between (D.state disk.old) (D.state disk.new) None None 0 0) 0 }
-    ensures devices { (status : Status) → IsErrOf result status → may_end_opening (origin status) ≡ true }
+    ensures ended { (status : Status) → IsErrOf result status
+        → EndsOpening status word (K.keying keyer.now).tag (D.state disk.old) (D.state disk.new) session.new.sealed }
     ensures reads { (D.state disk.old).read_faults ≤ (D.state disk.new).read_faults }
     ensures writes { (D.state disk.old).write_faults ≤ (D.state disk.new).write_faults }
 {
@@ -73,11 +69,9 @@ fn take_up<D: Disk, K: KeyOf>(
     ensures sealed { IfOk result (λ pool. session.new.sealed ≡ pool.group) }
     ensures opened { (image : Image) → (D.state disk.old).seen ≡ Some image
         → Opens (D.state disk.old) (D.state disk.new) Word.Run (K.keying keyer.now).tag image session.new.sealed result }
-    ensures unopened { (status : Status) → IsErrOf result status → session.new.sealed ≡ imported_by status }
     ensures sized { (n : ℕ) → IsErrOf result (Status.BadSize n) → (disk.new ≡ disk.old) × (session.new.sealed ≡ 0) }
-    ensures cause { (status : Status) → IsErrOf result status → HasCauseFor status Word.Run (K.keying keyer.now).tag
-        (between (D.state disk.old) (D.state disk.new) None None 0 0) 0 }
-    ensures devices { (status : Status) → IsErrOf result status → may_end_opening (origin status) ≡ true }
+    ensures ended { (status : Status) → IsErrOf result status
+        → EndsOpening status Word.Run (K.keying keyer.now).tag (D.state disk.old) (D.state disk.new) session.new.sealed }
     ensures reads { (D.state disk.old).read_faults ≤ (D.state disk.new).read_faults }
     ensures writes { (D.state disk.old).write_faults ≤ (D.state disk.new).write_faults }
 {
@@ -104,12 +98,10 @@ fn begin_new<D: Disk, K: KeyOf>(
     ensures sealed { IfOk result (λ pool. session.new.sealed ≡ pool.group) }
     ensures opened { (image : Image) → (D.state disk.old).seen ≡ Some image
         → Opens (D.state disk.old) (D.state disk.new) Word.Make (K.keying keyer.now).tag image session.new.sealed result }
-    ensures unopened { (status : Status) → IsErrOf result status → session.new.sealed ≡ imported_by status }
     ensures sized { (n : ℕ) → IsErrOf result (Status.BadSize n) → (disk.new ≡ disk.old) × (session.new.sealed ≡ 0) }
     ensures unlawful { (IsLawfulSize (D.state disk.old).sectors → ⊥) → MatchResult result (λ _. ⊥) (λ status. SizedSo status Unit) }
-    ensures cause { (status : Status) → IsErrOf result status → HasCauseFor status Word.Make (K.keying keyer.now).tag
-        (between (D.state disk.old) (D.state disk.new) None None 0 0) 0 }
-    ensures devices { (status : Status) → IsErrOf result status → may_end_opening (origin status) ≡ true }
+    ensures ended { (status : Status) → IsErrOf result status
+        → EndsOpening status Word.Make (K.keying keyer.now).tag (D.state disk.old) (D.state disk.new) session.new.sealed }
     ensures reads { (D.state disk.old).read_faults ≤ (D.state disk.new).read_faults }
     ensures writes { (D.state disk.old).write_faults ≤ (D.state disk.new).write_faults }
 {

@@ -7,7 +7,7 @@ use Rattle.table_state.specs.Pools.{Held, new_held}
 use Rattle.table_state.specs.SealForms.{fewest_sectors, most_sectors, new_seal}
 use Rattle.table_state.proofs.Created.{new_stands_over}
 use Rattle.txg_sync.specs.Creating.{Creates, CreatesAllButGate}
-use Rattle.txg_sync.specs.Stages.{Begins, LeavesFirstGate}
+use Rattle.txg_sync.specs.Stages.{Begins, LeavesBeginning, LeavesFirstGate}
 
 pub creates_of : (tag sectors : ℕ) (held : Held) (old new : Option Image) → held ≡ new_held tag sectors → TellsImage sectors old
     → fewest_sectors ≤ sectors → sectors ≤ most_sectors → Begins tag old new → Creates old new sectors held
@@ -33,3 +33,8 @@ all_but_gate tag sectors (Some image) new tells left = (
     torn = left.2.torn;
   },
 )
+
+-- what is told then
+pub beginning_left : (tag : ℕ) (old new : Option Image) → LeavesFirstGate tag old new → LeavesBeginning tag old new
+beginning_left tag None new left = tt
+beginning_left tag (Some image) new left = (left.0, left.1, left.2.beginning)

@@ -149,9 +149,6 @@ module _ (group sectors : ℕ) (image : Image) (is : IsImage sectors image) (eno
         is_taken_image : IsImage sectors taken
         is_taken_image = IsImage-torn sectors image taken (gate_sector slot) is is_taken.taking.torn
 
-        count_stored : length stored ≡ sectors
-        count_stored = same.count ∙ is_taken_image.count
-
         torn_filled : Torn (body_sector slot) stored filled
         torn_filled = Torn-set stored (body_sector slot) (body_bytes seal) (length-body_bytes seal fits)
 

@@ -2,7 +2,7 @@
 use Rattle.std.proofs.Common.{◌≡◌, ℕ, zero, suc, ◌+◌, ◌<◌, ◌≤◌, Bool, true, false, ◌||◌, ◌==◌, List, [], ◌∷◌, ◌++◌, Option, Some, length, get_or, map, take, drop, length-drop, take-append-drop, refl, sym, ap, subst, ◌∙◌, arith}
 use Rattle.std.specs.Prelude.{nat_lt, slice_index_or}
 use Rattle.std.specs.List.{AllByRecursion, list_any}
-use Rattle.std.proofs.lemmas.Bool.{false≢true, ltb-true}
+use Rattle.std.proofs.lemmas.Bool.{false≢true, ltb-true, or_parts}
 use Rattle.std.proofs.lemmas.Bool.Decides.{nat_tests}
 use Rattle.std.proofs.lemmas.List.{length-append, length-take}
 use Rattle.grant_book.specs.Sectors.{marked, AreFirstFree, FindsFree}
@@ -71,10 +71,6 @@ places_of_parts (records ∷ lists) places count =
 
 -- ---- What being free says
 
-or_none : (a b : Bool) → (a || b) ≡ false → (a ≡ false) × (b ≡ false)
-or_none true b none = absurd (false≢true (sym none))
-or_none false b none = (refl, none)
-
 -- a block lies at a place where its place is among those of all
 at_block : (sector : ℕ) (contents : List Stored) → list_any (λ place. place == sector) (block_places contents) ≡ list_any (λ (stored : Stored). stored.place == sector) contents
 at_block sector [] = refl
@@ -90,7 +86,7 @@ module _ (used : List Bool) (contents : List Stored) where
   vacant_from : (place : ℕ) → IsFree (marked used (block_places contents)) place → IsVacant place
   vacant_from place free =
       let below : place < length used = omega (arith, free.within, length-marked (block_places contents) used) in
-      let both = or_none (get_or used place true) (list_any (λ p. p == place) (block_places contents)) (sym (marked-at (block_places contents) used place true below) ∙ free.free true) in
+      let both = or_parts (get_or used place true) (list_any (λ p. p == place) (block_places contents)) (sym (marked-at (block_places contents) used place true below) ∙ free.free true) in
       record { below = below; unused = both.0; no_block = sym (at_block place contents) ∙ both.1 }
 
   module _ (ring : (sector : ℕ) → sector < 32 → slice_index_or used sector true ≡ true) where

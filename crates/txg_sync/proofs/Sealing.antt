@@ -1,18 +1,19 @@
 -- What the stages of the first seal come to, one after another, where the disk tells its contents and where it doesn't.
-use Rattle.std.proofs.Common.{◌≡◌, ℕ, ◌<◌, ◌≤◌, Option, Some, None, sym, ◌∙◌, subst, inl}
-use Rattle.std.specs.Prelude.{List, slice_set}
-use Rattle.disk_model.specs.Images.{Image, IsImage, TellsImage, Holds, MayTouch, Torn}
-use Rattle.disk_model.proofs.Sectors.{sector_at-set_other}
+use Rattle.std.proofs.Common.{◌≡◌, ℕ, ◌<◌, ◌≤◌, length, Option, Some, None, Result, Ok, Err, sym, ◌∙◌, subst, inl}
+use Rattle.std.specs.Prelude.{List, OnErr, slice_set}
+use Rattle.disk_model.specs.Images.{Image, IsImage, TellsImage, Stays, Holds, MayTouch, Torn, sector_bytes}
+use Rattle.disk_model.proofs.Sectors.{Torn-set, sector_at-set_other}
 use Rattle.std.proofs.lemmas.List.{length-set}
 use Rattle.disk_model.specs.Crashes.{DiskState, LeavesOnly, NothingPending}
 use Rattle.disk_model.proofs.Moments.{and_then, weakened}
 use Rattle.uber_ring.specs.Seals.{FitsSeal, body_bytes, open_gate}
 use Rattle.uber_ring.specs.Ring.{slot_of, gate_sector, body_sector, newest, WritingLeaves, OpeningLeaves, GateTorn, BodyTorn}
 use Rattle.uber_ring.specs.declared.seal.Seal.{Seal}
+use Rattle.uber_ring.proofs.RingLaws.{torn_body, torn_gate}
 use Rattle.table_state.specs.SealForms.{new_seal, fewest_sectors, most_sectors}
 use Rattle.table_state.specs.Flat.{flat_version}
 use Rattle.txg_sync.specs.Creating.{HasNoSeal}
-use Rattle.txg_sync.specs.Stages.{TakingLeaves, IsTaken, Takes, Unbegun, Beginning, Begins, LeavesFirstGate}
+use Rattle.txg_sync.specs.Stages.{TakingLeaves, MayTake, IsTaken, Takes, Unbegun, LeavesUnbegun, Beginning, Begins, LeavesFirstGate}
 use Rattle.txg_sync.proofs.Beginnings.{unbegun_taking, unbegun_body, beginning_gate, begun_opened}
 
 -- an image with a sector torn is one with that sector torn, whatever was set there
@@ -22,6 +23,14 @@ Torn-beside at bytes d c torn = record {
   others = λ i other. torn.others i other ∙ sym (sector_at-set_other d at i bytes other);
   whole = λ within. torn.whole (subst (λ n. at < n) (length-set d at bytes) within);
 }
+
+-- a write that may not last has touched no other sector
+pub written_touches : {T E : Type 0} (result : Result T E) (at : ℕ) (bytes : List ℕ) (old mid new : Option Image)
+    → length bytes ≡ sector_bytes → Holds old mid at bytes → Stays mid new → OnErr result (MayTouch old new at)
+written_touches (Ok done) at bytes old mid new long held stays = tt
+written_touches (Err failed) at bytes None mid new long held stays = tt
+written_touches (Err failed) at bytes (Some image) mid new long held stays =
+    (slice_set image at bytes, subst (λ (o : Option Image). Stays o new) held stays, Torn-set image at bytes long)
 
 -- told contents after a write
 pub holds_some : (image : Image) (old new : Option Image) (at : ℕ) (bytes : List ℕ) → old ≡ Some image → Holds old new at bytes → new ≡ Some (slice_set image at bytes)
@@ -47,6 +56,24 @@ begins_of tag sectors seal (Some image) mid later new enough few is none fits sa
       begun_opened tag sectors image is none taken takes.2 enough few (subst FitsSeal same fits),
     )
 
+-- or the slot wasn't taken
+pub unbegun_before : (tag sectors : ℕ) (old new : Option Image) → TellsImage sectors old → HasNoSeal old → MayTake 1 old new
+    → LeavesUnbegun old new
+unbegun_before tag sectors None new is none may = tt
+unbegun_before tag sectors (Some image) new is none may = (may.0, may.1, unbegun_taking tag sectors image is none may.0 may.2)
+
+-- or the body wasn't written
+pub unbegun_behind : (tag sectors : ℕ) (seal : Seal) (old mid new : Option Image) → TellsImage sectors old → HasNoSeal old
+    → seal ≡ new_seal tag sectors → Takes 1 old mid → MayTouch mid new (body_sector (slot_of seal.group)) → LeavesUnbegun old new
+unbegun_behind tag sectors seal None mid new is none same takes touch = tt
+unbegun_behind tag sectors seal (Some image) mid new is none same takes touch =
+    let touched : MayTouch (Some takes.0) new (body_sector 1) = subst (λ (o : Option Image). MayTouch o new (body_sector 1)) takes.1
+    (subst (λ (s : Seal). MayTouch mid new (body_sector (slot_of s.group))) same touch) in (
+      touched.0,
+      touched.1,
+      unbegun_body tag sectors image is none takes.0 takes.2 touched.0 (torn_body 1 takes.0 touched.0 touched.2),
+    )
+
 -- or the write of the gate failed
 pub first_gate_left : (tag sectors : ℕ) (seal : Seal) (old mid later new : Option Image) → fewest_sectors ≤ sectors → sectors ≤ most_sectors
     → TellsImage sectors old → HasNoSeal old → FitsSeal seal → seal ≡ new_seal tag sectors → Takes 1 old mid
@@ -65,6 +92,8 @@ first_gate_left tag sectors seal (Some image) mid later new enough few is none f
         meant = slice_set filled_here (gate_sector 1) open_gate;
         begun = begun_opened tag sectors image is none taken takes.2 enough few (subst FitsSeal same fits);
         torn = Torn-beside (gate_sector 1) open_gate filled_here touched.0 touched.2;
+        beginning = beginning_gate tag sectors image is none taken takes.2 enough few (subst FitsSeal same fits) touched.0
+            (torn_gate 1 filled_here touched.0 touched.2);
       },
     )
 

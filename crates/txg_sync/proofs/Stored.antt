@@ -2,6 +2,7 @@
 use Rattle.std.proofs.Common.{◌≡◌, ℕ, Bool, true, false, ◌||◌, ◌==◌, List, Option, Some, None, Result, Ok, Err, refl, sym, ap, subst, ◌∙◌}
 use Rattle.std.specs.Prelude.{unwrap_or, OnOk}
 use Rattle.std.specs.List.{list_any}
+use Rattle.std.proofs.lemmas.Bool.{or_parts}
 use Rattle.std.proofs.lemmas.List.Folds.{list_any-append}
 use Rattle.disk_model.specs.Images.{Image}
 use Rattle.disk_model.specs.Crashes.{DiskState, IsDisk, LeavesOnly}
@@ -26,11 +27,7 @@ module _ (contents : List Stored) (parts : List ChainPart) where
   pages = places_in parts
 
   none_of_both : (at : ℕ) → list_any (λ place. place == at) (group_places contents parts) ≡ false → (list_any (λ place. place == at) blocks ≡ false) × (list_any (λ place. place == at) pages ≡ false)
-  none_of_both at none = parts_of _ _ (sym (list_any-append (λ place. place == at) blocks pages) ∙ none)
-    where
-      parts_of : (a b : Bool) → (a || b) ≡ false → (a ≡ false) × (b ≡ false)
-      parts_of true b e = absurd (cc e)
-      parts_of false b e = (refl, e)
+  none_of_both at none = or_parts _ _ (sym (list_any-append (λ place. place == at) blocks pages) ∙ none)
 
   -- sectors of blocks and then of pages
   same_both : (d e c : Image) → SameBut blocks d e → SameBut pages e c → SameBut (group_places contents parts) d c

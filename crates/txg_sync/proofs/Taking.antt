@@ -6,11 +6,11 @@ use Rattle.disk_model.specs.Crashes.{DiskState, Elapses, IsDisk, LeavesOnly, Not
 use Rattle.disk_model.proofs.Moments.{started, goes_on, and_then, weakened}
 use Rattle.disk_model.proofs.Sectors.{Torn-same, Torn-set}
 use Rattle.uber_ring.specs.Seals.{closed_gate}
-use Rattle.uber_ring.specs.Ring.{slot_count, ring_sectors, gate_sector, gate_is_open, GateTorn, Closes, ClosingLeaves}
+use Rattle.uber_ring.specs.Ring.{slot_count, ring_sectors, gate_sector, gate_is_open, GateTorn, Closes, ClosingLeaves, MayClose}
 use Rattle.uber_ring.proofs.RingLaws.{torn_gate, seal_at-open}
 use Rattle.uber_ring.proofs.Gates.{length-closed_gate}
 use Rattle.uber_ring.proofs.Written.{gate_closed}
-use Rattle.txg_sync.specs.Stages.{TakingLeaves, Takes}
+use Rattle.txg_sync.specs.Stages.{MayTake, TakingLeaves, Takes}
 
 module _ (slot sectors : ℕ) (image : Image) (is : IsImage sectors image) where
   -- nothing was written
@@ -42,6 +42,12 @@ module _ (slot sectors : ℕ) (image : Image) (is : IsImage sectors image) where
   )
   taken_of false new in_ring enough gate closes = (image, closes, record { taking = still_taking; closed = sym gate })
 
+  -- or where it failed
+  pub left_of : (was_open : Bool) (new : Option Image) → was_open ≡ gate_is_open image slot → MayClose slot was_open (Some image) new
+      → MayTake slot (Some image) new
+  left_of true new gate touched = (touched.0, touched.1, taking_open touched.0 (sym gate) (torn_gate slot image touched.0 touched.2))
+  left_of false new gate stays = (image, stays, still_taking)
+
 -- told contents that stay are the same
 pub stays_some : (image : Image) (old new : Option Image) → old ≡ Some image → Stays old new → new ≡ Some image
 stays_some image old new told stays = subst (λ (o : Option Image). Stays o new) told stays
@@ -53,6 +59,19 @@ takes_of slot sectors was_open None mid later new is in_ring enough first gate s
 takes_of slot sectors was_open (Some image) mid later new is in_ring enough first gate second closes =
     let there : later ≡ Some image = stays_some image mid later first second in
     taken_of slot sectors image is was_open new in_ring enough (subst (λ (o : Option Image). IfSome o (λ i. was_open ≡ gate_is_open i slot)) first gate) (subst (λ (o : Option Image). Closes slot was_open o new) there closes)
+
+-- what is told where the slot's closing failed
+pub may_take : (slot sectors : ℕ) (was_open : Bool) (old mid later new : Option Image) → TellsImage sectors old → Stays old mid
+    → IfSome mid (λ image. was_open ≡ gate_is_open image slot) → Stays mid later → MayClose slot was_open later new → MayTake slot old new
+may_take slot sectors was_open None mid later new is first gate second touched = tt
+may_take slot sectors was_open (Some image) mid later new is first gate second touched =
+    left_of slot sectors image is was_open new (subst (λ (o : Option Image). IfSome o (λ i. was_open ≡ gate_is_open i slot)) first gate)
+    (subst (λ (o : Option Image). MayClose slot was_open o new) (stays_some image mid later first second) touched)
+
+-- or where it wasn't reached
+pub not_taken : (slot sectors : ℕ) (old new : Option Image) → TellsImage sectors old → Stays old new → MayTake slot old new
+not_taken slot sectors None new is stays = tt
+not_taken slot sectors (Some image) new is stays = (image, stays, still_taking slot sectors image is)
 
 -- a crash at each moment of it: the meter changes nothing that a crash may leave, and the closing what the ring says
 pub while_taken : (slot sectors : ℕ) (image : Image) (is : IsImage sectors image) {old metered retired new : DiskState} (was_open : Bool)

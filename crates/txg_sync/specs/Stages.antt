@@ -28,6 +28,11 @@ abbrev pub Takes : (slot : ℕ) → (old new : Option Image) → Type 0
 Takes slot None new = ⊤
 Takes slot (Some image) new = (taken : Image) × (new ≡ Some taken) × IsTaken slot image taken
 
+-- told contents of a slot whose taking failed
+abbrev pub MayTake : (slot : ℕ) → (old new : Option Image) → Type 0
+MayTake slot None new = ⊤
+MayTake slot (Some image) new = (c : Image) × (new ≡ Some c) × TakingLeaves slot image c
+
 -- every sector but the two of a slot is as before
 pub record SameOutside (slot : ℕ) (image c : Image) : Type 0 where
   pub count : length c ≡ length image
@@ -38,10 +43,20 @@ pub record Unbegun (image c : Image) : Type 0 where
   pub none : HasNoPool c
   pub outside : SameOutside 1 image c
 
+-- told contents where the sealing failed before that gate
+abbrev pub LeavesUnbegun : (old new : Option Image) → Type 0
+LeavesUnbegun None new = ⊤
+LeavesUnbegun (Some image) new = (c : Image) × (new ≡ Some c) × Unbegun image c
+
 -- while the first seal is written no seal counts yet, or the image holds the new pool, and only its slot changes
 pub record Beginning (tag : ℕ) (image c : Image) : Type 0 where
   pub shows : NoneOrNew tag (length image) c
   pub outside : SameOutside 1 image c
+
+-- told contents where the sealing failed at the gate
+abbrev pub LeavesBeginning : (tag : ℕ) → (old new : Option Image) → Type 0
+LeavesBeginning tag None new = ⊤
+LeavesBeginning tag (Some image) new = (c : Image) × (new ≡ Some c) × Beginning tag image c
 
 -- the first seal counts
 pub record Begun (tag : ℕ) (image c : Image) : Type 0 where
@@ -58,6 +73,7 @@ pub record FirstGateLeft (tag : ℕ) (image c : Image) : Type 0 where
   pub meant : Image
   pub begun : Begun tag image meant
   pub torn : Torn (gate_sector 1) meant c
+  pub beginning : Beginning tag image c
 
 abbrev pub LeavesFirstGate : (tag : ℕ) → (old new : Option Image) → Type 0
 LeavesFirstGate tag None new = ⊤

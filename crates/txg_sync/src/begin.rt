@@ -3,7 +3,7 @@ ghost use Rattle.disk_model.specs.Images.{Image, Stays};
 ghost use Rattle.disk_model.specs.Crashes.{LeavesOnly, NothingPending};
 ghost use Rattle.txg_sync.specs.SyncFaults.{SealAccounts};
 ghost use Rattle.txg_sync.specs.Creating.{HasNoSeal};
-ghost use Rattle.txg_sync.specs.Stages.{Begins, Beginning, LeavesFirstGate, Unbegun};
+ghost use Rattle.txg_sync.specs.Stages.{Begins, Beginning, LeavesFirstGate, LeavesUnbegun, Unbegun};
 ghost use Rattle.txg_sync.specs.declared.fault.SealFault.TheVariants.{ReadFault, WriteFault, GateFault};
 
 use crate::fault::SealFault;
@@ -28,6 +28,7 @@ pub fn seal_new_pool<D: Disk>(disk: &mut D, tag: u8) -> Result<(), SealFault>
     ensures before_the_gate { (image : Image) → (D.state disk.old).seen ≡ Some image
         → NothingPending (Some image) (D.state disk.old).may_leave → IsErrOf result WriteFault
         → LeavesOnly (D.state disk.old) (D.state disk.new) (Unbegun image) }
+    ensures unbegun { IsErrOf result WriteFault → LeavesUnbegun (D.state disk.old).seen (D.state disk.new).seen }
     ensures unread { IsErrOf result ReadFault → Stays (D.state disk.old).seen (D.state disk.new).seen }
     ensures unread_crash { IsErrOf result ReadFault → (c : Image) → (D.state disk.new).may_leave c → (D.state disk.old).may_leave c }
     ensures accounts { SealAccounts (D.state disk.old) (D.state disk.new) result }

@@ -7,7 +7,7 @@ ghost use Rattle.table_state.specs.Flat.{HasNoPool};
 ghost use Rattle.table_state.specs.Pools.{new_held};
 ghost use Rattle.table_state.specs.Sound.{IsSound};
 ghost use Rattle.txg_sync.specs.Creating.{NoneOrNew, Creates, CreatesAllButGate, HasNoSeal};
-ghost use Rattle.txg_sync.specs.Stages.{SameOutside};
+ghost use Rattle.txg_sync.specs.Stages.{LeavesBeginning, LeavesUnbegun, SameOutside};
 
 use crate::begin::seal_new_pool;
 use crate::syncing::told;
@@ -58,6 +58,8 @@ pub fn create<D: Disk>(alloc: Global, disk: &mut D, tag: u8) -> Result<Pool, Syn
         → LeavesOnly (D.state disk.old) (D.state disk.new) HasNoPool }
     ensures at_the_gate { IsErrOf result GateFault
         → CreatesAllButGate tag (D.state disk.old).sectors (D.state disk.old).seen (D.state disk.new).seen }
+    ensures unbegun { IsErrOf result WriteFault → LeavesUnbegun (D.state disk.old).seen (D.state disk.new).seen }
+    ensures beginning { IsErrOf result GateFault → LeavesBeginning tag (D.state disk.old).seen (D.state disk.new).seen }
     ensures unwritten { IsErrOf result Memory → disk.new ≡ disk.old }
     ensures whole { (sector : ℕ) → IsErrOf result (Damaged sector) → ⊥ }
     ensures unread { IsErrOf result ReadFault → Stays (D.state disk.old).seen (D.state disk.new).seen }

@@ -2,13 +2,13 @@
 //! whoever needs the law of a list at hand calls its function.
 
 ghost use Rattle.std.specs.List.{AllByRecursion};
-ghost use Rattle.ddt_entry.specs.Records.{Fits, HomeFits, KeyFits};
+ghost use Rattle.ddt_entry.specs.Records.{Fits, HomeFits};
 ghost use Rattle.ddt_entry.specs.declared.entry.Change.TheVariants.{Entry as AnEntry};
 ghost use Rattle.table_state.specs.SlotRecords.{FitsSlot};
 
-use ddt_entry::{Change, Entry, Home, Key};
+use ddt_entry::{Change, Entry, Home};
 use plain_table::PlainTable;
-use table_state::{SlotRecord, slot_fits};
+use table_state::{SlotRecord, key_fits, slot_fits};
 
 /// Slots that code has in hand fit.
 pub fn slots_fit(slots: &[SlotRecord])
@@ -61,12 +61,7 @@ fn change_fits(change: Change)
     }
 }
 
-/// A key by value fits, since its types say so; behind a reference the checker doesn't see it.
-fn key_fits(key: Key)
-    ensures { KeyFits key }
-{}
-
-/// The same of a home.
+/// A home by value fits, since its types say so; behind a reference the checker doesn't see it.
 fn home_fits(home: Home)
     ensures { HomeFits home }
 {}

@@ -3,29 +3,15 @@ ghost use Rattle.disk_model.specs.Crashes.{LeavesOnly};
 ghost use Rattle.disk_model.specs.Accounts.{Accounts};
 ghost use Rattle.page_tree.specs.Chains.{pages_for, AreOpen, MayTouchAll, ChainLeaves};
 ghost use Rattle.pool_model.specs.Plain.{stored_of};
-ghost use Rattle.table_state.specs.Pools.{block_sector};
 ghost use Rattle.table_state.specs.Sealed.{places_in, roots_of};
 ghost use Rattle.table_state.specs.Closing.{block_places};
 ghost use Rattle.txg_sync.specs.Writing.{group_places, Stores, HoldsSince, StoresParts};
 
 use crate::part::ChainPages;
-use arrayvec::ArrayVec;
 use disk_model::{Disk, Failed, crash_laws};
-use page_tree::front::{full_array, pad_to, put};
 use page_tree::{PagePtr, write_chain};
 use pool_model::StoredBlock;
-
-/// A content as a sector has it: with zeros behind it.
-#[tactic(auto, unfolding(ddt_entry::specs::Bytes::zeros))]
-pub fn sector_of(content: &[u8]) -> [u8; 4096]
-    requires { length content.now ≤ 4096 }
-    ensures { result ≡ block_sector content.now }
-{
-    let mut front = ArrayVec::new();
-    put(&mut front, content);
-    pad_to(&mut front, 4096);
-    full_array(front)
-}
+use table_state::sector_of;
 
 /// Writes blocks to their places, with no barrier behind them. Takes no memory.
 pub fn write_blocks<D: Disk>(disk: &mut D, contents: &[StoredBlock]) -> Result<(), Failed>

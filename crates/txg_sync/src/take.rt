@@ -2,8 +2,8 @@ ghost use Rattle.std.specs.Prelude.{◌≡◌, ◌≤◌, ◌<◌, Some, OnOk, I
 ghost use Rattle.disk_model.specs.Images.{Image, Stays};
 ghost use Rattle.disk_model.specs.Crashes.{LeavesOnly, NothingPending};
 ghost use Rattle.txg_sync.specs.SyncFaults.{SealAccounts};
-ghost use Rattle.txg_sync.specs.Stages.{TakingLeaves, Takes};
-ghost use Rattle.txg_sync.specs.declared.fault.SealFault.TheVariants.{ReadFault, GateFault};
+ghost use Rattle.txg_sync.specs.Stages.{MayTake, TakingLeaves, Takes};
+ghost use Rattle.txg_sync.specs.declared.fault.SealFault.TheVariants.{ReadFault, WriteFault, GateFault};
 
 use crate::fault::SealFault;
 use disk_model::{Disk, crash_laws};
@@ -18,6 +18,7 @@ pub fn take_slot<D: Disk>(disk: &mut D, slot: u32) -> Result<(), SealFault>
     ensures durable { OnOk result (NothingPending (D.state disk.new).seen (D.state disk.new).may_leave) }
     ensures any_moment { (image : Image) → (D.state disk.old).seen ≡ Some image → NothingPending (Some image) (D.state disk.old).may_leave
         → LeavesOnly (D.state disk.old) (D.state disk.new) (TakingLeaves slot image) }
+    ensures untaken { IsErrOf result WriteFault → MayTake slot (D.state disk.old).seen (D.state disk.new).seen }
     ensures unread { IsErrOf result ReadFault → Stays (D.state disk.old).seen (D.state disk.new).seen }
     ensures unread_crash { IsErrOf result ReadFault → (c : Image) → (D.state disk.new).may_leave c → (D.state disk.old).may_leave c }
     ensures ungated { IsErrOf result GateFault → ⊥ }

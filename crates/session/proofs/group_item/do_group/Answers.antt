@@ -3,12 +3,13 @@ use Rattle.std.proofs.Common.{◌≡◌, ◌∙◌, ⊎_elim, true, Err, [], ◌
 use Rattle.pool_model.specs.Group.{lanes_in_turn}
 use Rattle.pool_model.specs.Plain.{Part, lanes, task_of, told_of}
 use Rattle.table_state.specs.Pools.{Held}
+use Rattle.txg_sync.proofs.Stored.{on_ok}
 use Rattle.session.specs.Devices.{between}
 use Rattle.session.specs.Origins.{origin, may_begin}
 use Rattle.session.specs.StageEntries.{IsOnDisk}
 use Rattle.session.specs.StageItems.{HasNoClashIn, ItemWent}
 use Rattle.session.specs.declared.status.Status.{Status}
-use Rattle.session.proofs.ItemEnds.{group_went, on_ok}
+use Rattle.session.proofs.ItemEnds.{group_went}
 use Rattle.session.proofs.group_item.do_group.Goals as goal
 
 pub returns-clause-went : goal.returns-clause-went

@@ -7,7 +7,8 @@ use Rattle.pool_model.specs.Plain.{part_of}
 use Rattle.table_state.specs.Pools.{Held}
 use Rattle.session.specs.Devices.{between}
 use Rattle.session.proofs.ItemEnds.{IsPlain, import_text, plain_stopped, told_went}
-use Rattle.session.proofs.Unsealed.{holds_now, nothing_new}
+use Rattle.session.proofs.Over.{over_leaves}
+use Rattle.session.proofs.Unsealed.{nothing_new}
 use Rattle.session.proofs.plain_item.do_import.Goals as goal
 
 pub returns-clause-went : goal.returns-clause-went
@@ -23,7 +24,7 @@ returns-clause-went g c s over =
     (part_of c.args.item.now) (subst (λ (i : Item). IsPlain (part_of i)) (sym c.requires.is) tt)
     c.tell.result c.write_item.result _ c.tell.ensures c.write_item.ensures
     (import_text c.args.item.now c.requires.is _ c.pool.inside.sealed None s.pool sealed_is) now
-    (λ image left. holds_now _ keying c.args.pool.now s over c.requires.on_disk.tag_is image (c.import_again.ensures.no_more image left))
+    (λ image left. over_leaves _ c.args.pool.now s keying.tag over c.requires.on_disk.tag_is image (c.import_again.ensures.no_more image left))
 
 pub returns-in-Err-clause-went : goal.returns-in-Err-clause-went
 returns-in-Err-clause-went g c s over =
@@ -35,5 +36,5 @@ returns-in-Err-clause-went g c s over =
     (nothing_new _ keying c.args.pool.now s over c.requires.on_disk.tag_is [] c.import_again.ensures.any_moment)
     (part_of c.args.item.now) (subst (λ (i : Item). IsPlain (part_of i)) (sym c.requires.is) tt)
     c.in-Err.status (λ same. c.in-Err.ensures.device (ap Err same))
-    (λ image left. holds_now _ keying c.args.pool.now s over c.requires.on_disk.tag_is image (c.import_again.ensures.no_more image left))
+    (λ image left. over_leaves _ c.args.pool.now s keying.tag over c.requires.on_disk.tag_is image (c.import_again.ensures.no_more image left))
     (Keeps-refl (g.W.Sink.written c.args.out.now))

@@ -3,13 +3,14 @@ use Rattle.std.proofs.lemmas.List.{take_all}
 use Rattle.cmd_file.specs.Items.{IsItem}
 use Rattle.pool_model.specs.Group.{Rules, lanes_in_turn}
 use Rattle.pool_model.specs.Plain.{Part, part_of}
+use Rattle.lane_run.proofs.Lanes.{at_index}
 use Rattle.session.specs.Devices.{Devices, between}
 use Rattle.session.specs.StageGoing.{GoesOn, StopsIn}
 use Rattle.session.specs.declared.status.Status.{Status}
 use Rattle.session.specs.Entries.{last_start}
 use Rattle.session.specs.Running.{told_in, faults_in}
 use Rattle.session.proofs.Goings.{with_item}
-use Rattle.session.proofs.ItemsGone.{item_at, split_of, gone_start, done_more, told_before, goes_more, goes_stop, reads_more, early_more, same_sectors}
+use Rattle.session.proofs.ItemsGone.{split_of, gone_start, done_more, told_before, goes_more, goes_stop, reads_more, early_more, same_sectors}
 use Rattle.session.proofs.running.do_items.Goals as goal
 
 pub items-init : goal.items-init
@@ -64,7 +65,7 @@ items-preserved g c =
 pub do_item-done-requires-clause-form : goal.do_item-done-requires-clause-form
 do_item-done-requires-clause-form g c κs within =
     subst (λ x. IsItem (part_of x)) (sym c.item-item.is)
-    (item_at IsItem part_of c.args.items.now c.items.item-index c.item-item.result c.items-test.true c.requires.form)
+    (at_index IsItem part_of c.args.items.now c.items.item-index c.item-item.result c.items-test.true c.requires.form)
 
 pub returns-in-Err-clause-stopped : goal.returns-in-Err-clause-stopped
 returns-in-Err-clause-stopped g c = λ status is.

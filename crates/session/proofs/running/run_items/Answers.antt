@@ -12,7 +12,7 @@ pub returns-then-is_err-clause-ran : goal.returns-then-is_err-clause-ran
 returns-then-is_err-clause-ran g c = λ image told.
     inr (untouched c.args.word (g.K.KeyOf.keying c.args.keyer.now).tag image (g.D.Disk.state c.args.disk.now)
     (g.W.Sink.written c.args.out.now) (g.W.Sink.faults c.args.out.now)
-    (record { groups = c.reserve.new.self; sealed = c.args.session.now.sealed }) OutOfMemory c.crash_laws.ensures.here
+    (record { groups = c.reserve.new.self; sealed = c.args.session.now.sealed }) OutOfMemory told c.crash_laws.ensures.here
     (c.reserve.ensures.items ∙ c.requires.new.groups) c.requires.new.sealed refl refl)
 
 pub returns-in-Ok-do_items-clause-ran : goal.returns-in-Ok-do_items-clause-ran

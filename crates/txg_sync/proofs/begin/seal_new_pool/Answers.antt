@@ -1,6 +1,6 @@
 -- Each stage leaves no seal that counts, or the new one.
-use Rattle.std.proofs.Common.{◌≤◌, subst, sym}
-use Rattle.txg_sync.proofs.Sealing.{begins_of, first_gate_left, unbegun_at_each, while_taking, while_filling, while_opening}
+use Rattle.std.proofs.Common.{◌≤◌, subst, sym, rules}
+use Rattle.txg_sync.proofs.Sealing.{begins_of, first_gate_left, unbegun_at_each, unbegun_before, unbegun_behind, while_taking, while_filling, while_opening}
 use Rattle.txg_sync.proofs.begin.seal_new_pool.Goals as goal
 
 pub returns-in_err-take_slot-clause-any_moment : goal.returns-in_err-take_slot-clause-any_moment
@@ -11,6 +11,15 @@ returns-in_err-take_slot-clause-any_moment g c image told pending =
 pub returns-in_err-take_slot-clause-before_the_gate : goal.returns-in_err-take_slot-clause-before_the_gate
 returns-in_err-take_slot-clause-before_the_gate g c image told pending fault =
     while_taking c.args.tag _ image _ told c.sectors.ensures.told c.requires.none (c.take_slot.ensures.any_moment image told pending)
+
+pub returns-in_err-take_slot-clause-unbegun : goal.returns-in_err-take_slot-clause-unbegun
+returns-in_err-take_slot-clause-unbegun g c fault =
+    unbegun_before c.args.tag _ _ _ c.sectors.ensures.told c.requires.none (c.take_slot.ensures.untaken (search rules))
+
+pub returns-in_default-clause-unbegun : goal.returns-in_default-clause-unbegun
+returns-in_default-clause-unbegun g c fault =
+    unbegun_behind c.args.tag _ _ _ _ _ c.sectors.ensures.told c.requires.none c.new_seal-seal.ensures c.in_ok-take_slot.ensures.taken
+    c.in_default.ensures.touched
 
 pub returns-in_default-clause-any_moment : goal.returns-in_default-clause-any_moment
 returns-in_default-clause-any_moment g c image told pending =
