@@ -1,7 +1,8 @@
 -- The pool that is imported again over told contents is the one that stood in memory.
 use Rattle.std.proofs.Common.{◌≡◌, ◌∙◌, ℕ, true, Option, Some, None, Err, refl, sym, ap, subst}
 use Rattle.std.specs.Prelude.{IfSome, IsErrOf}
-use Rattle.disk_model.specs.Images.{Image, Stays}
+use Rattle.disk_model.specs.Images.{Image}
+use Rattle.disk_model.specs.DiskLaws.{Stays}
 use Rattle.disk_model.specs.Crashes.{DiskState, NothingPending}
 use Rattle.uber_ring.specs.Ring.{newest}
 use Rattle.uber_ring.specs.declared.seal.Seal.{Seal}

@@ -6,7 +6,8 @@ use Rattle.std.specs.Io.KnownBytes.{Keeps}
 use Rattle.std.proofs.KnownBytes.{Keeps-refl}
 use Rattle.io_model.specs.Outside.{Rose}
 use Rattle.disk_model.specs.Images.{Image}
-use Rattle.disk_model.specs.Crashes.{DiskState, IsDisk, LeavesOnly, NothingPending}
+use Rattle.disk_model.specs.Crashes.{DiskState, LeavesOnly, NothingPending}
+use Rattle.disk_model.specs.DiskLaws.{IsDisk}
 use Rattle.disk_model.proofs.Moments.{started, weakened, and_then}
 use Rattle.pool_model.specs.declared.notes.Session.{Session}
 use Rattle.pool_model.specs.Plain.{Part}
