@@ -4,31 +4,24 @@ use Rattle.std.specs.Prelude.{codes}
 use Rattle.std.specs.List.{AllByRecursion, list_all, slice_split}
 use Rattle.std.specs.Str.{bytes_eq}
 use Rattle.std.specs.Str.Parse.{digits_value}
-use Rattle.std.proofs.lemmas.Bool.{ltb-true, leb-true}
+use Rattle.std.proofs.lemmas.Bool.{ltb-true, leb-true, and_parts}
 use Rattle.std.proofs.lemmas.List.{length_push}
 use Rattle.hex.specs.Hex.{decode_of}
 use Rattle.hex.specs.declared.FromHexError.{FromHexError}
 use Rattle.pool_model.specs.Plain.{Task, write, lanes, Part, of_group, stat, «import»}
 use Rattle.pool_model.specs.File.{OpenGroup, Progress, file_of, file_limit, or_bad, parts_in, ended, first_progress, read_line, read_behind, read_item, read_command, with_part, with_group, with_task, is_line_feed, is_space, moment_in, moment_in_words, moment_limit, task_in, task_in_words, write_task, number_in, is_number, slot_limit, block_in, lawful_block, is_lower_hex}
 use Rattle.cmd_file.specs.Items.{AreItems, IsItem, IsWrite}
-
-both_true : (a b : Bool) → (a && b) ≡ true → (a ≡ true) × (b ≡ true)
-both_true true b e = (refl, e)
-both_true false b e = cc
+use Rattle.pool_model.proofs.Loops.{all_push}
 
 -- a choice that gave something
 chosen : {X : Type 0} (b : Bool) (x : X) (o : Option X) → cond b o None ≡ Some x → (b ≡ true) × (o ≡ Some x)
 chosen true x o e = (refl, e)
 chosen false x o e = cc
 
-all_push : {X : Type 0} (P : X → Type 0) (xs : List X) (x : X) → AllByRecursion P xs → P x → AllByRecursion P (xs ++ x ∷ [])
-all_push P [] x all here = (here, tt)
-all_push P (y ∷ ys) x all here = (all.0, all_push P ys x all.1 here)
-
 number_is_below : (limit : ℕ) (word : List ℕ) (number : ℕ) → number_in limit word ≡ Some number → number < limit
 number_is_below limit word number e =
     let test = chosen (is_number word && nat_lt (digits_value 10 word) limit) number (Some (digits_value 10 word)) e in
-    let parts = both_true (is_number word) (nat_lt (digits_value 10 word) limit) test.0 in
+    let parts = and_parts (is_number word) (nat_lt (digits_value 10 word) limit) test.0 in
     let same : digits_value 10 word ≡ number = let whole = test.1 in cc in
     subst (λ (n : ℕ). n < limit) same (ltb-true (digits_value 10 word) limit parts.1)
 
@@ -36,7 +29,7 @@ lawful_content : (r : Result (List ℕ) FromHexError) (content : List ℕ) → l
 lawful_content (Err error) content e = cc
 lawful_content (Ok block) content e =
     let test = chosen (nat_lt 0 (length block) && nat_le (length block) 4096) content (Some block) e in
-    let parts = both_true (nat_lt 0 (length block)) (nat_le (length block) 4096) test.0 in
+    let parts = and_parts (nat_lt 0 (length block)) (nat_le (length block) 4096) test.0 in
     let same : block ≡ content = let whole = test.1 in cc in
     subst (λ (c : List ℕ). (0 < length c) × (length c ≤ 4096)) same (ltb-true 0 (length block) parts.0, leb-true (length block) 4096 parts.1)
 

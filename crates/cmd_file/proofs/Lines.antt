@@ -3,7 +3,8 @@ use Rattle.std.proofs.Common.{◌≡◌, ℕ, ◌<◌, List, [], ◌∷◌, leng
 use Rattle.std.specs.List.{slice_split}
 use Rattle.std.proofs.lemmas.List.Splits.{length-slice_split}
 use Rattle.pool_model.specs.declared.commands.CommandFile.{CommandFile}
-use Rattle.pool_model.specs.Plain.{Part, part_of}
+use Rattle.pool_model.specs.Plain.{Part}
+use Rattle.pool_model.specs.Mirrors.{part_of}
 use Rattle.pool_model.specs.File.{Progress, is_line_feed, read_line, parts_in}
 use Rattle.cmd_file.specs.declared.fault.FileFault.{FileFault}
 use Rattle.cmd_file.specs.declared.fault.FileFault.TheVariants.{Bad, SourceFault, Memory}

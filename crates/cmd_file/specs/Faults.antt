@@ -4,7 +4,7 @@ use Rattle.io_model.specs.declared.source.ReadFault.{ReadFault}
 use Rattle.io_model.specs.declared.source.ReadFault.TheVariants as reads
 use Rattle.pool_model.specs.declared.commands.CommandFile.{CommandFile}
 use Rattle.pool_model.specs.declared.notes.BadKind.TheVariants.{Form}
-use Rattle.pool_model.specs.Plain.{part_of}
+use Rattle.pool_model.specs.Mirrors.{part_of}
 use Rattle.pool_model.specs.File.{file_of}
 use Rattle.cmd_file.specs.declared.fault.FileFault.{FileFault}
 use Rattle.cmd_file.specs.declared.fault.FileFault.TheVariants as faults

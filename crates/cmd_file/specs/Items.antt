@@ -1,7 +1,8 @@
 -- What every item of a good command file keeps to.
 use Rattle.std.specs.Prelude.{◌≡◌, ◌^◌, ◌<◌, ◌≤◌, List, length, ⊤}
 use Rattle.std.specs.List.{AllByRecursion}
-use Rattle.pool_model.specs.Plain.{WritesBlock, Task, lanes, Part, of_group, stat, «import»}
+use Rattle.pool_model.specs.Plain.{Task, lanes, Part, of_group, stat, «import»}
+use Rattle.pool_model.specs.Mirrors.{WritesBlock}
 
 -- a write of a block into a slot of lane 0
 abbrev pub IsWrite : Task → Type 0

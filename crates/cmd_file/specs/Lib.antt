@@ -3,3 +3,4 @@ pub mod Faults
 pub mod Items
 pub mod Progress
 pub mod Reading
+pub mod FileReads

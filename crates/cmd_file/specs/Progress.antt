@@ -1,7 +1,7 @@
 -- What the reader of a file keeps between two lines, as the definition of a command file sees it.
 use Rattle.std.specs.Prelude.{map}
 use Rattle.std.specs.Option.{option_map}
-use Rattle.pool_model.specs.Plain.{part_of, task_of}
+use Rattle.pool_model.specs.Mirrors.{part_of, task_of}
 use Rattle.pool_model.specs.File as file
 use Rattle.cmd_file.specs.declared.progress.OpenGroup.{OpenGroup}
 use Rattle.cmd_file.specs.declared.progress.Progress.{Progress}

@@ -1,5 +1,5 @@
 ghost use Rattle.std.specs.Prelude.{◌≡◌, map, Some};
-ghost use Rattle.pool_model.specs.Plain.{task_of, part_of};
+ghost use Rattle.pool_model.specs.Mirrors.{task_of, part_of};
 ghost use Rattle.std.specs.List.{slice_split};
 ghost use Rattle.pool_model.specs.File.{is_line_feed, moment_in, task_in, with_part, read_item, read_command, read_line, ended, first_progress, parts_in};
 ghost use Rattle.cmd_file.specs.Faults.{Gives, Parses};

@@ -16,7 +16,7 @@
 ghost use Rattle.std.specs.Prelude.{◌+◌, ◌≤◌};
 ghost use Rattle.io_model.specs.Outside.{ConsumesUpTo};
 ghost use Rattle.pool_model.specs.File.{file_limit};
-ghost use Rattle.cmd_file.specs.Reading.{Reads};
+ghost use Rattle.cmd_file.specs.FileReads.{Reads};
 
 mod cuts;
 mod fault;

@@ -56,7 +56,8 @@ AreBytes-bytes_at len offset bytes fits i =
       | inr le ↦ rw (get_or_past (take len (drop offset bytes)) i 0 (omega (arith, length-take len (drop offset bytes)))) (omega arith)
     ]
 
-AreBytes-append : (xs ys : List ℕ) → AreBytes xs → AreBytes ys → AreBytes (xs ++ ys)
+-- what two lists of bytes make is bytes
+pub AreBytes-append : (xs ys : List ℕ) → AreBytes xs → AreBytes ys → AreBytes (xs ++ ys)
 AreBytes-append [] ys all_xs all_ys i = all_ys i
 AreBytes-append (x ∷ xs) ys all_xs all_ys zero = all_xs 0
 AreBytes-append (x ∷ xs) ys all_xs all_ys (suc i) = AreBytes-append xs ys (λ k. all_xs (suc k)) all_ys i

@@ -1,7 +1,6 @@
 -- Laws of keys, for the crates above: `key_eq` decides whether two keys are one, and `key_cmp` is a
 -- total order in which only a key itself ties with it.
-use Rattle.std.proofs.Common.{◌≡◌, ◌≢◌, ℕ, Bool, true, false, ◌&&◌, ◌==◌, List, refl, sym, ap, subst, ◌∙◌, arith}
-use Rattle.std.specs.Bool.{Decides}
+use Rattle.std.proofs.Common.{◌≡◌, ℕ, true, ◌&&◌, ◌==◌, List, refl, sym, ap, ◌∙◌, arith}
 use Rattle.std.specs.Cmp.{IsTotalOrder, IsEquivalence, Equal-is}
 use Rattle.std.specs.Cmp.Lexicographic.{slice_cmp, nat_list_eq_equiv}
 use Rattle.std.specs.Ordering.{nat_cmp, ordering_then, is_eq}
@@ -63,15 +62,3 @@ key_eq-same a = sym (is_eq-key_cmp a a) ∙ ap is_eq (tied_itself key_cmp_total 
 
 pub key_eq-symm : (a b : Key) → key_eq a b ≡ key_eq b a
 key_eq-symm a b = key_eq_equiv.symm a b
-
-unless_true : (e : Bool) → (e ≢ true) → e ≡ false
-unless_true true not_true = absurd (not_true refl)
-unless_true false not_true = refl
-
--- keys that differ are not taken for one
-pub key_eq-false : (a b : Key) → a ≢ b → key_eq a b ≡ false
-key_eq-false a b differ = unless_true (key_eq a b) (λ e. differ (key_eq-true a b e))
-
--- `key_eq` says exactly whether two keys are one
-pub key_eq-Decides : (a b : Key) → Decides (key_eq a b) (a ≡ b)
-key_eq-Decides a b = (key_eq-true a b, λ same. let P : Key → Type 0 = λ k. key_eq a k ≡ true in subst P same (key_eq-same a))

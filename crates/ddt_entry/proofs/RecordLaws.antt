@@ -11,7 +11,8 @@ use Rattle.ddt_entry.specs.declared.entry.Change.TheVariants.{Entry, Gone}
 use Rattle.ddt_entry.specs.declared.record.Malformed.{Malformed}
 use Rattle.ddt_entry.specs.Bytes.{bytes_at, number_at, number_bytes, AreBytes}
 use Rattle.ddt_entry.specs.Changes.{key_in}
-use Rattle.ddt_entry.specs.Records.{Fields, no_home, fields_of, spelled, record_bytes, fields_in, is_key_length, is_no_home, malformed, change_of, change_in, IsKeyLength, IsRecord, KeyFits, HomeFits, Fits}
+use Rattle.ddt_entry.specs.Records.{Fields, fields_in, is_key_length, is_no_home, malformed, change_of, change_in}
+use Rattle.ddt_entry.specs.Spelling.{no_home, fields_of, spelled, record_bytes, IsKeyLength, IsRecord, KeyFits, HomeFits, Fits}
 use Rattle.ddt_entry.proofs.Bytes.{length-number_bytes, length-bytes_at, bytes_at-front, AreBytes-bytes_at, AreBytes-concat, AreBytes-number_bytes, number_at-front, number_at-is, number_at-lt, number_bytes-at_4, number_bytes-at_8, zero_bytes, zero_number}
 use Rattle.ddt_entry.proofs.Parts.{offset_of, part_of, cut, concat-cut}
 
@@ -136,7 +137,7 @@ fits-said (Gone key) fits home = fits
 is_key_length-true : (len : ℕ) → IsKeyLength len → is_key_length len ≡ true
 is_key_length-true len h = and_from (leb 1 len) (leb len 4_096) (le-leb 1 len h.0) (le-leb len 4_096 h.1)
 
-is_key_length-from : (len : ℕ) → is_key_length len ≡ true → IsKeyLength len
+pub is_key_length-from : (len : ℕ) → is_key_length len ≡ true → IsKeyLength len
 is_key_length-from len e =
     let both = and_parts (leb 1 len) (leb len 4_096) e in
     (leb-true 1 len both.0, leb-true len 4_096 both.1)

@@ -2,7 +2,7 @@
 //! bytes reach far enough.
 
 ghost use Rattle.std.specs.Prelude.{◌≡◌, ◌+◌, ◌≤◌, length};
-ghost use Rattle.ddt_entry.specs.Bytes.{AreBytes, bytes_at, number_at};
+ghost use Rattle.ddt_entry.specs.Bytes.{bytes_at, number_at};
 
 use byteorder::{ByteOrder, LittleEndian};
 
@@ -32,8 +32,3 @@ pub fn array_at<const N: usize>(bytes: &[u8], offset: usize) -> [u8; N]
     array.copy_from_slice(part);
     array
 }
-
-/// Bytes that code has in hand are bytes.
-pub fn bytes_fit(bytes: &[u8])
-    ensures { AreBytes bytes.now }
-{}

@@ -1,10 +1,9 @@
 //! A change as 72 bytes, and back.
 
-ghost use Rattle.std.specs.Prelude.{◌≡◌, ℕ, ◌≤◌, ◌↔◌, List, ◌++◌, length, drop, Ok, IsOk};
-ghost use Rattle.ddt_entry.specs.declared.entry.Change.{Change};
-ghost use Rattle.ddt_entry.specs.Bytes.{AreBytes};
+ghost use Rattle.std.specs.Prelude.{◌≡◌};
 ghost use Rattle.ddt_entry.specs.Changes.{key_in};
-ghost use Rattle.ddt_entry.specs.Records.{Fields, spelled, record_bytes, fields_in, malformed, change_of, change_in, IsKeyLength, IsRecord, KeyFits, HomeFits, Fits};
+ghost use Rattle.ddt_entry.specs.Records.{fields_in, change_of, change_in};
+ghost use Rattle.ddt_entry.specs.Spelling.{spelled, record_bytes, IsKeyLength, KeyFits, HomeFits, Fits};
 
 use crate::entry::{Change, Entry, Home};
 use crate::fields::{array_at, u32_at, u64_at};
@@ -133,25 +132,3 @@ pub fn change_fits(change: Change)
         Change::Gone(key) => key_fits(key),
     }
 }
-
-/// The form is one in both directions. It does nothing: its clauses are laws of the definitions.
-pub fn records_read_back()
-    // What is written is read back, whatever follows it.
-    ensures written { (change : Change) (rest : List ℕ) → Fits change → IsKeyLength (key_in change).len
-        → change_in (record_bytes change ++ rest) ≡ Ok change }
-    // What is read was written so, and the change fits.
-    ensures read { (bytes : List ℕ) (change : Change) → AreBytes bytes → 72 ≤ length bytes → change_in bytes ≡ Ok change
-        → (bytes ≡ record_bytes change ++ drop 72 bytes) × Fits change × IsKeyLength (key_in change).len }
-    // A record is 72 bytes.
-    ensures len { (change : Change) → Fits change → length (record_bytes change) ≡ 72 }
-    ensures bytes { (change : Change) → Fits change → AreBytes (record_bytes change) }
-    // What follows the 72 bytes doesn't matter.
-    ensures first { (bytes rest : List ℕ) → 72 ≤ length bytes → change_in (bytes ++ rest) ≡ change_in bytes }
-{}
-
-/// Which bytes are records: those that have the form by the table, and no others. It does nothing: its clauses are
-/// laws of the definitions.
-pub fn records_by_the_table()
-    ensures right { (bytes : List ℕ) → IsOk (change_in bytes) ↔ IsRecord bytes }
-    ensures wrong { (bytes : List ℕ) → (change_in bytes ≡ malformed) ↔ (¬ IsRecord bytes) }
-{}

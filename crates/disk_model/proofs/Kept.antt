@@ -1,23 +1,17 @@
 -- What a disk in memory keeps still agrees after each of its calls, and what these leave.
 use Rattle.std.proofs.Common.{◌≡◌, ℕ, ◌-◌, ◌<◌, ◌≤◌, List, [], ◌∷◌, ◌++◌, Some, length, replicate, refl, sym, ◌∙◌, ap, subst, arith}
 use Rattle.std.specs.Prelude.{slice_set, All}
-use Rattle.std.proofs.lemmas.List.{append-nil, length-replicate, get_or-replicate}
+use Rattle.std.proofs.lemmas.List.{length-replicate, get_or-replicate}
 use Rattle.std.proofs.lemmas.List.Elements.{All-push}
-use Rattle.disk_model.specs.Images.{Image, IsImage, Torn, sector_bytes, zero_sector}
-use Rattle.disk_model.specs.Crashes.{Elapses, Follows, NothingPending}
+use Rattle.disk_model.specs.Images.{Image}
+use Rattle.disk_model.specs.DiskLaws.{IsImage, Torn, sector_bytes, zero_sector, Elapses, Follows}
+use Rattle.disk_model.specs.Crashes.{NothingPending}
 use Rattle.disk_model.specs.Memory.{Cells, MayLeave, MemoryDisk, IsKept, IsWithin, padded, cells_after, cells_now, after_call, crash_image, state_of, told_by}
 use Rattle.disk_model.specs.declared.call.Call.{Call}
 use Rattle.disk_model.specs.declared.call.Call.TheVariants.{Write, Barrier}
 use Rattle.disk_model.specs.declared.call.SectorWrite.{SectorWrite}
 use Rattle.disk_model.proofs.Sectors.{IsImage-set, same_image}
 use Rattle.disk_model.proofs.Outcomes.{cells_after-push, cells_now-write, left_before_write, left_before_barrier, settled_by_barrier, elapses_by_call, whole_after_crash, kept_by_crash}
-
--- whole sectors need no zeros behind them
-pub padded_full : (sectors : ℕ) (image : Image) → length image ≡ sectors → padded sectors image ≡ image
-padded_full sectors image count = ap (λ n. image ++ replicate n zero_sector) (none sectors (length image) count) ∙ append-nil image
-  where
-    none : (a b : ℕ) → b ≡ a → a - b ≡ 0
-    none a b same = omega (arith, same)
 
 -- zeros are whole sectors
 pub IsImage-zeros : (sectors : ℕ) → IsImage sectors (padded sectors [])
@@ -75,15 +69,6 @@ module _ (sectors : ℕ) (start : Image) (calls : List Call) (cells : Image) (ke
 
     now_whole : IsImage sectors (cells_now (cells_after (padded sectors start) calls))
     now_whole = subst (IsImage sectors) (sym kept.now) kept.whole
-
-    pub kept_by_barrier : IsKept sectors start later cells
-    kept_by_barrier = record {
-      fits = kept.fits;
-      now = ap cells_now ended ∙ kept.now;
-      whole = kept.whole;
-      base = subst (λ (c : Cells). IsImage sectors c.base) (sym ended) now_whole;
-      within = subst (λ (l : List Call). All (IsWithin sectors) l) (sym recorded) (All-push (IsWithin sectors) calls Barrier kept.within tt);
-    }
 
     pub settled_at_barrier : NothingPending (Some (cells_now (cells_after (padded sectors start) later))) (MayLeave sectors (cells_after (padded sectors start) later))
     settled_at_barrier =

@@ -1,7 +1,8 @@
 -- How what a crash leaves at each moment of a run goes on from call to call.
 use Rattle.std.proofs.Common.{◌∙◌, inl, inr, ⊎_elim, arith}
 use Rattle.disk_model.specs.Images.{Image}
-use Rattle.disk_model.specs.Crashes.{DiskState, Elapses, Follows, IsDisk, LeavesOnly}
+use Rattle.disk_model.specs.Crashes.{DiskState, LeavesOnly}
+use Rattle.disk_model.specs.DiskLaws.{Elapses, Follows, IsDisk}
 use Rattle.disk_model.specs.Accounts.{Keeps}
 
 -- before the first call

@@ -5,8 +5,9 @@ use Rattle.std.proofs.lemmas.Bool.{cases_eq, eqb-false, ne_eqb, or_from, or_part
 use Rattle.std.proofs.lemmas.List.{length-append, length-replicate, length-set, take_all, take-append-le}
 use Rattle.std.proofs.lemmas.List.Sums.{fold-append}
 use Rattle.std.proofs.lemmas.List.Folds.{list_any-append}
-use Rattle.disk_model.specs.Images.{Image, IsImage, Torn, sector_at, sector_bytes}
-use Rattle.disk_model.specs.Crashes.{Elapses, NothingPending}
+use Rattle.disk_model.specs.Images.{Image, sector_at}
+use Rattle.disk_model.specs.DiskLaws.{IsImage, Torn, sector_bytes, Elapses}
+use Rattle.disk_model.specs.Crashes.{NothingPending}
 use Rattle.disk_model.specs.Memory.{Cells, MayLeave, WasLeft, cells_after, cells_now, after_call, write_sector, touches, choice_at, crash_sector, told_by}
 use Rattle.disk_model.specs.declared.call.Call.{Call}
 use Rattle.disk_model.specs.declared.call.Call.TheVariants.{Write, Barrier}

@@ -3,7 +3,8 @@ use Rattle.std.proofs.Common.{◌≡◌, ◌≢◌, ℕ, ◌<◌, List, [], leng
 use Rattle.std.specs.Prelude.{slice_set}
 use Rattle.std.proofs.lemmas.Bool.{cases_eq}
 use Rattle.std.proofs.lemmas.List.{length-set, get_or-set_same, get_or-set_other, ext_get_or}
-use Rattle.disk_model.specs.Images.{Image, IsImage, Torn, sector_at, sector_bytes}
+use Rattle.disk_model.specs.Images.{Image, sector_at}
+use Rattle.disk_model.specs.DiskLaws.{IsImage, Torn, sector_bytes}
 
 -- a sector that is written holds what was written
 pub sector_at-set : (image : Image) (at : ℕ) (bytes : List ℕ) → at < length image → sector_at (slice_set image at bytes) at ≡ bytes

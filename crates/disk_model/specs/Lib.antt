@@ -5,3 +5,4 @@ pub mod Images
 pub mod Memory
 pub mod MemoryLaws
 pub mod Plans
+pub mod DiskLaws

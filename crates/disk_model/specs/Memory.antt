@@ -2,7 +2,8 @@
 use Rattle.std.specs.Prelude.{◌≡◌, ◌<◌, ◌≤◌, ⊤, ℕ, ◌-◌, ◌%◌, Bool, false, ◌==◌, List, [], ◌∷◌, ◌++◌, length, take, fold, replicate, slice_set, Some, None, Result, MatchResult, All, if◌then◌else◌}
 use Rattle.std.specs.List.{list_any}
 use Rattle.disk_model.specs.Crashes.{DiskState}
-use Rattle.disk_model.specs.Images.{Image, IsImage, sector_at, sector_bytes, zero_sector}
+use Rattle.disk_model.specs.Images.{Image, sector_at}
+use Rattle.disk_model.specs.DiskLaws.{IsImage, sector_bytes, zero_sector}
 use Rattle.disk_model.specs.Faults.{one_more}
 use Rattle.disk_model.specs.Plans.{fails_call}
 use Rattle.disk_model.specs.declared.call.Call.{Call}

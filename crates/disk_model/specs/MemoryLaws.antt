@@ -4,7 +4,7 @@ use Rattle.std.proofs.Common.{subst, sym, arith}
 use Rattle.std.proofs.lemmas.List.{take_all}
 use Rattle.std.proofs.lemmas.Option.{none-some}
 use Rattle.disk_model.specs.Images.{Image}
-use Rattle.disk_model.specs.Crashes.{IsDisk}
+use Rattle.disk_model.specs.DiskLaws.{IsDisk}
 use Rattle.disk_model.specs.Memory.{MemoryDisk, MayLeave, MayBeLeft, WasLeft, cells_after, state_of}
 use Rattle.disk_model.specs.declared.call.Call.{Call}
 

@@ -1,6 +1,7 @@
 ghost use Rattle.std.specs.Prelude.{◌≡◌, ◌≤◌, ◌<◌, ◌+◌, ◌-◌, ◌^◌, ℕ, None, min, OnOk, OnErr, IfOk};
-ghost use Rattle.disk_model.specs.Images.{Image, Torn, Stays, Holds, MayTouch, Gives, TellsImage};
-ghost use Rattle.disk_model.specs.Crashes.{DiskState, Follows, SameOutcomes, NothingPending, Elapses, IsDisk};
+ghost use Rattle.disk_model.specs.Images.{Image};
+ghost use Rattle.disk_model.specs.DiskLaws.{Torn, Stays, Holds, MayTouch, Gives, TellsImage, Follows, SameOutcomes, Elapses, IsDisk};
+ghost use Rattle.disk_model.specs.Crashes.{DiskState, NothingPending};
 ghost use Rattle.disk_model.specs.Accounts.{Keeps, Accounts};
 ghost use Rattle.disk_model.specs.Faults.{HasCause};
 

@@ -1,6 +1,7 @@
 ghost use Rattle.std.specs.Prelude.{◌≡◌, ◌≤◌, ◌<◌, ◌+◌, ◌-◌, ◌^◌, ℕ, [], ◌∷◌, ◌++◌, length, replicate, Some, min, IfOk, IfErr, OnOk, OnErr, IsErr, IsTrue, ◌↔◌};
-ghost use Rattle.disk_model.specs.Images.{Image, IsImage, Torn, Stays, Holds, MayTouch, Gives, TellsImage, zero_sector};
-ghost use Rattle.disk_model.specs.Crashes.{Follows, SameOutcomes, NothingPending, Elapses};
+ghost use Rattle.disk_model.specs.Images.{Image};
+ghost use Rattle.disk_model.specs.DiskLaws.{IsImage, Torn, Stays, Holds, MayTouch, Gives, TellsImage, zero_sector, Follows, SameOutcomes, Elapses};
+ghost use Rattle.disk_model.specs.Crashes.{NothingPending};
 ghost use Rattle.disk_model.specs.Accounts.{Keeps, Accounts};
 ghost use Rattle.disk_model.specs.Faults.{HasCause, one_more};
 ghost use Rattle.disk_model.specs.Plans.{fails_read};
@@ -37,7 +38,7 @@ pub struct MemDisk {
 
 impl Model for MemDisk {
     ghost use Rattle.std.specs.Prelude.{◌≡◌, length};
-    ghost use Rattle.disk_model.specs.Images.{IsImage};
+    ghost use Rattle.disk_model.specs.DiskLaws.{IsImage};
     ghost use Rattle.disk_model.specs.Memory.{MemoryDisk, contents, cells_after, cells_now, padded, IsKept};
 
     ghost Value = { MemoryDisk };

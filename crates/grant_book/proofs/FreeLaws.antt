@@ -107,10 +107,6 @@ distinct_from_rising (first ∷ others) rising = (each others rising.0, distinct
     each [] all = tt
     each (other ∷ ns) all = (ne_eqb first other (λ same. omega (arith, same, all.0)), each ns all.1)
 
--- no two of them are one
-pub free_sectors-distinct : (used : List Bool) → IsDistinct eqb (free_sectors used)
-free_sectors-distinct used = distinct_from_rising (free_sectors used) (free_sectors-rising used)
-
 -- places that were found: each is free, and no two are one
 module _ (used : List Bool) (wanted : ℕ) (places : List ℕ) (found : AreFirstFree used wanted places) where
   pub found-free : AllByRecursion (IsFree used) places

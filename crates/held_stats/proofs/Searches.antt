@@ -14,15 +14,12 @@ use Rattle.ddt_entry.specs.Keys.{key_cmp, key_eq}
 use Rattle.ddt_entry.specs.declared.key.Key.{Key}
 use Rattle.ddt_entry.proofs.KeyLaws.{key_cmp_total, exact_keys, is_eq-key_cmp}
 use Rattle.pool_model.specs.Pool.{Pairwise}
+use Rattle.pool_model.proofs.TablePuts.{apart_by_order}
 
 tested : (o : Ordering) → is_lt o ≡ true → (is_eq o ≡ false) × (is_lt (ordering_reverse o) ≡ false)
 tested Less e = (refl, refl)
 tested Equal e = absurd (cc e)
 tested Greater e = absurd (cc e)
-
--- a key before another isn't that one
-apart : (a b : Key) → is_lt (key_cmp a b) ≡ true → key_eq a b ≡ false
-apart a b before = sym (is_eq-key_cmp a b) ∙ (tested (key_cmp a b) before).0
 
 -- nor behind it
 not_behind : (a b : Key) → is_lt (key_cmp a b) ≡ true → is_lt (key_cmp b a) ≡ false
@@ -47,7 +44,7 @@ module _ {X : Type 0} (key_of : X → Key) where
   found_at key (x ∷ xs) zero d rising within tie = ap (λ b. cond b (Some x) (find (λ y. key_eq (key_of y) key) xs)) (sym (is_eq-key_cmp (key_of x) key) ∙ ap is_eq tie)
   found_at key (x ∷ xs) (suc i) d rising within tie =
       let later = every_at (λ y. is_lt (key_cmp (key_of x) (key_of y)) ≡ true) xs i d (omega arith) rising.0 in
-      let other : key_eq (key_of x) key ≡ false = ap (key_eq (key_of x)) (sym (exact_keys (key_of (get_or xs i d)) key tie)) ∙ apart (key_of x) (key_of (get_or xs i d)) later in
+      let other : key_eq (key_of x) key ≡ false = ap (key_eq (key_of x)) (sym (exact_keys (key_of (get_or xs i d)) key tie)) ∙ apart_by_order (key_of x) (key_of (get_or xs i d)) later in
       ap (λ b. cond b (Some x) (find (λ y. key_eq (key_of y) key) xs)) other ∙ found_at key xs i d rising.1 (omega arith) tie
 
   none_found : (key : Key) (xs : List X) → AllByRecursion (λ x. key_eq (key_of x) key ≡ false) xs → find (λ x. key_eq (key_of x) key) xs ≡ None

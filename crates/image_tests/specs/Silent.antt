@@ -1,6 +1,7 @@
 -- What a disk in memory is that tells nothing of its contents.
 use Rattle.std.specs.Prelude.{None}
-use Rattle.disk_model.specs.Crashes.{DiskState, IsDisk}
+use Rattle.disk_model.specs.Crashes.{DiskState}
+use Rattle.disk_model.specs.DiskLaws.{IsDisk}
 use Rattle.disk_model.specs.Memory.{MemoryDisk, state_of}
 use Rattle.disk_model.specs.MemoryLaws.{is_disk}
 

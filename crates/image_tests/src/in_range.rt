@@ -4,11 +4,12 @@ ghost use Rattle.std.specs.Prelude.{◌≡◌, ◌≤◌, ◌<◌, true, length,
 ghost use Rattle.std.specs.List.{AllByRecursion};
 ghost use Rattle.ddt_entry.specs.declared.entry.Home.{Home};
 ghost use Rattle.ddt_entry.specs.declared.key.Key.{Key};
-ghost use Rattle.pool_model.specs.Plain.{stored_of};
+ghost use Rattle.pool_model.specs.Mirrors.{stored_of};
 ghost use Rattle.pool_model.specs.Table.{found, sync_table};
 ghost use Rattle.table_state.specs.Flat.{IsWithin, IsChangeWithin};
 ghost use Rattle.table_state.specs.Sealed.{ChangesSlotWithin};
-ghost use Rattle.table_state.specs.SlotRecords.{is_slot, FitsSlot};
+ghost use Rattle.table_state.specs.SlotRecords.{is_slot};
+ghost use Rattle.table_state.specs.Spelling.{FitsSlot};
 ghost use Rattle.table_state.specs.Sound.{HasLength};
 ghost use Rattle.table_state.specs.Closing.{closed_of, IsInRange};
 ghost use Rattle.table_state.specs.Pools.{slots_after};

@@ -16,17 +16,16 @@ use Rattle.pool_model.specs.declared.commands.Mode.TheVariants.{Off, On, Verify}
 use Rattle.pool_model.specs.declared.answers.WriteAnswer.TheVariants as written
 use Rattle.pool_model.specs.Pool.{Pointer, tracks, tracked_at, plain, tracked}
 use Rattle.pool_model.specs.Table.{found}
-use Rattle.pool_model.specs.Plain.{Stored}
+use Rattle.pool_model.specs.Mirrors.{Stored}
 use Rattle.pool_model.specs.Clash.{HasNoOther}
-use Rattle.pool_model.specs.Command.{Opening, Course, Known, Row, Spot, nowhere, at_home, at_fresh, row, home_at, or_in, last_tracked}
-use Rattle.pool_model.specs.Command.{known_home, known_or, known_in_table, home_row, table_row, verify_row, mode_row}
+use Rattle.pool_model.specs.Command.{Opening, Course, Known, Row, Spot, nowhere, at_home, at_fresh, row, home_at, or_in, last_tracked, known_home, known_or, known_in_table, home_row, table_row, verify_row, mode_row}
 use Rattle.pool_model.specs.Group.{Standing, opening_of}
 use Rattle.table_state.specs.Pools.{Held}
 use Rattle.pool_model.proofs.Waiting.{waiting_has}
 use Rattle.pool_model.proofs.Pointers.{first_has, tracks-key}
 use Rattle.pool_model.proofs.Homes.{home_now}
 use Rattle.pool_model.proofs.Putting.{left_of}
-use Rattle.table_state.specs.Holding.{StandsOver}
+use Rattle.table_state.specs.Over.{StandsOver}
 use Rattle.pool_model.proofs.Lists.{all_from}
 use Rattle.lane_run.specs.Live.{Live, home_here, sector_or, sector_here, known_by, first_mode, opening_over}
 use Rattle.lane_run.proofs.Places.{find_none, not_used}

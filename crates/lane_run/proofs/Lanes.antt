@@ -11,7 +11,8 @@ use Rattle.grant_book.specs.Sectors.{AreFirstFree}
 use Rattle.pool_model.specs.declared.commands.Command.{Command}
 use Rattle.pool_model.specs.declared.answers.WriteAnswer.{WriteAnswer}
 use Rattle.pool_model.specs.Pool.{Pool, run_length}
-use Rattle.pool_model.specs.Plain.{WritesBlock, Act, write, read, free, Task, Reply, Stored, to_write, task_of, act_of}
+use Rattle.pool_model.specs.Plain.{Act, write, read, free, Task, Reply, to_write}
+use Rattle.pool_model.specs.Mirrors.{WritesBlock, Stored, task_of, act_of}
 use Rattle.pool_model.specs.Clash.{written_by, contents_in}
 use Rattle.pool_model.specs.Command.{Opening, Turn, Course, Row, Spot, nowhere, at_home, at_fresh, is_fault, after}
 use Rattle.pool_model.specs.Group.{Standing, opening_of, opened, course_of}
@@ -19,7 +20,7 @@ use Rattle.pool_model.specs.Table.{counted_homes}
 use Rattle.table_state.specs.Pools.{Held}
 use Rattle.table_state.specs.Sound.{IsSound}
 use Rattle.table_state.specs.Closing.{block_places}
-use Rattle.table_state.specs.Holding.{StandsOver}
+use Rattle.table_state.specs.Over.{StandsOver}
 use Rattle.lane_run.specs.Groups.{IsFirstWrite}
 use Rattle.lane_run.specs.Going.{IsCourse, turns_from, first_course, HasRun, HasRunOver}
 use Rattle.lane_run.specs.Live.{Live, write_of, put_at, after_row, row_here, IsChosen, IsWritten, WritesAct, CountsFault}

@@ -10,16 +10,16 @@ use Rattle.ddt_entry.specs.declared.key.Key.{Key}
 use Rattle.ddt_entry.specs.declared.entry.Home.{Home}
 use Rattle.ddt_entry.specs.declared.entry.Entry.{Entry}
 use Rattle.ddt_entry.specs.declared.entry.Change.{Change}
-use Rattle.ddt_entry.specs.Records.{IsKeyLength}
+use Rattle.ddt_entry.specs.Spelling.{IsKeyLength}
 use Rattle.disk_model.specs.Images.{Image, sector_at}
 use Rattle.grant_book.specs.Sectors.{AreFirstFree}
 use Rattle.pool_model.specs.Pool.{Pool, Pointer, with_key, Pairwise, IsApart, IsWellFormed, run_length}
 use Rattle.pool_model.specs.Table.{TableState, Matches, found, sync_table, waiting_in, flush_limit, IsApartFrom, IsTable, AreChangesRising}
-use Rattle.pool_model.specs.Plain.{WritesBlock, Act, write, read, free, Task, Reply, Stored}
+use Rattle.pool_model.specs.Plain.{Act, write, read, free, Task, Reply}
+use Rattle.pool_model.specs.Mirrors.{WritesBlock, Stored}
 use Rattle.pool_model.specs.Clash.{contents_in}
 use Rattle.pool_model.specs.Command.{Opening, Turn, Course, known_home}
-use Rattle.pool_model.specs.Group.{Standing, opening_of, IsFree, AreFresh, change_of, changes_of, change_from, settled, block_or}
-use Rattle.pool_model.specs.Group.{blocks_after, after_lanes}
+use Rattle.pool_model.specs.Group.{Standing, opening_of, IsFree, AreFresh, change_of, changes_of, change_from, settled, block_or, blocks_after, after_lanes}
 use Rattle.pool_model.specs.Space.{need}
 use Rattle.uber_ring.specs.declared.seal.Seal.{Seal}
 use Rattle.table_state.specs.SealForms.{is_formed, has_size, has_flags, has_modes, has_checkpoint, fewest_sectors, most_sectors}
@@ -46,7 +46,7 @@ use Rattle.pool_model.proofs.Counts.{course_counts}
 use Rattle.pool_model.proofs.Aside.{before_opened}
 use Rattle.pool_model.proofs.Going.{IsGoing, going_all, going_matches}
 use Rattle.pool_model.proofs.Writing.{kept_formed, written_all, written_waits}
-use Rattle.table_state.specs.Holding.{StandsOver}
+use Rattle.table_state.specs.Over.{StandsOver}
 use Rattle.lane_run.specs.Groups.{IsFirstWrite}
 use Rattle.pool_model.proofs.Syncing.{sync_keeps}
 use Rattle.pool_model.proofs.Lists.{all_in, all_from}

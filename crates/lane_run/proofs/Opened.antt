@@ -7,7 +7,7 @@ use Rattle.std.proofs.Math.Bool.{or-false}
 use Rattle.std.proofs.lemmas.List.{length-map}
 use Rattle.ddt_entry.specs.declared.key.Key.{Key}
 use Rattle.ddt_entry.specs.declared.entry.Entry.{Entry}
-use Rattle.ddt_entry.specs.Records.{IsKeyLength}
+use Rattle.ddt_entry.specs.Spelling.{IsKeyLength}
 use Rattle.disk_model.specs.Images.{Image}
 use Rattle.pool_model.specs.Pool.{Pool, Pointer, LiesWithin, IsApart, run_length, is_at, tracks, keys_in}
 use Rattle.pool_model.specs.Table.{TableState, found, counted_homes}
@@ -24,7 +24,7 @@ use Rattle.table_state.proofs.UnusedOf.{unused_free}
 use Rattle.pool_model.proofs.Keys.{keys_are_counted_homes}
 use Rattle.pool_model.proofs.Homes.{matched_home}
 use Rattle.pool_model.proofs.Putting.{home_of-known}
-use Rattle.table_state.specs.Holding.{StandsOver}
+use Rattle.table_state.specs.Over.{StandsOver}
 use Rattle.pool_model.proofs.Lists.{all_from_both, all_in, all_at}
 use Rattle.lane_run.specs.Going.{IsCourse, IsPlaced, Stands}
 use Rattle.lane_run.specs.Live.{Live}

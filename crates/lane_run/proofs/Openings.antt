@@ -27,7 +27,7 @@ use Rattle.pool_model.specs.Homes.{HomesMatch}
 use Rattle.pool_model.proofs.Waiting.{waiting_has}
 use Rattle.pool_model.proofs.Matching.{matches_read}
 use Rattle.pool_model.specs.ByKey.{MatchesByKey}
-use Rattle.table_state.specs.Holding.{StandsOver}
+use Rattle.table_state.specs.Over.{StandsOver}
 use Rattle.lane_run.proofs.Places.{used_either}
 use Rattle.lane_run.proofs.Stored.{found_has}
 

@@ -4,7 +4,7 @@ use Rattle.std.proofs.Common.{zero, suc, ◌∙◌, arith, inl, inr, ⊎_elim}
 use Rattle.std.specs.Prelude.{slice_index_or}
 use Rattle.std.specs.List.{AllByRecursion, find, list_any}
 use Rattle.std.proofs.lemmas.Bool.{ne_eqb}
-use Rattle.pool_model.specs.Plain.{Stored}
+use Rattle.pool_model.specs.Mirrors.{Stored}
 use Rattle.table_state.specs.Closing.{IsNamed}
 
 -- one that fails changes nothing of what is found

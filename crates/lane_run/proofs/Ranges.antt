@@ -11,12 +11,13 @@ use Rattle.ddt_entry.specs.declared.key.Key.{Key}
 use Rattle.ddt_entry.specs.declared.entry.Home.{Home}
 use Rattle.ddt_entry.specs.declared.entry.Entry.{Entry}
 use Rattle.ddt_entry.specs.Keys.{key_eq}
-use Rattle.ddt_entry.specs.Records.{IsKeyLength, KeyFits}
+use Rattle.ddt_entry.specs.Spelling.{IsKeyLength, KeyFits}
 use Rattle.grant_book.specs.Sectors.{AreFirstFree}
 use Rattle.grant_book.proofs.FreeLaws.{found-distinct}
 use Rattle.pool_model.specs.Pool.{Mark, plain, tracked, loose, since_of, is_tracked}
 use Rattle.pool_model.specs.Table.{found, entry_at}
-use Rattle.pool_model.specs.Plain.{Stored, to_write}
+use Rattle.pool_model.specs.Plain.{to_write}
+use Rattle.pool_model.specs.Mirrors.{Stored}
 use Rattle.pool_model.specs.Command.{Spot, nowhere, at_home, at_fresh, Row, uses_table, pointer_at}
 use Rattle.pool_model.specs.declared.closed.SlotChange.{SlotChange}
 use Rattle.pool_model.proofs.Lists.{all_from}
@@ -31,8 +32,7 @@ use Rattle.table_state.proofs.SlotLaws.{is_slot-true}
 use Rattle.table_state.proofs.SlotsAfter.{rising_after, within_after, within_later}
 use Rattle.table_state.specs.Slots.{slot_of, kept_of}
 use Rattle.table_state.proofs.UnusedOf.{found_unused}
-use Rattle.lane_run.specs.Live.{Live, or_below, home_here, first_mode, is_taken, write_of, put_home, put_at, with_first, brought, shared}
-use Rattle.lane_run.specs.Live.{after_row, IsHomeOf, IsReady, IsSince}
+use Rattle.lane_run.specs.Live.{Live, or_below, home_here, first_mode, is_taken, write_of, put_home, put_at, with_first, brought, shared, after_row, IsHomeOf, IsReady, IsSince}
 use Rattle.lane_run.proofs.Growing.{one_slot_more}
 use Rattle.lane_run.proofs.Places.{IsNew, all_more}
 use Rattle.lane_run.proofs.Openings.{found_within}

@@ -11,13 +11,12 @@ use Rattle.ddt_entry.specs.declared.entry.Entry.{Entry}
 use Rattle.ddt_entry.specs.Keys.{key_eq}
 use Rattle.ddt_entry.proofs.KeyLaws.{key_eq-same, key_eq-true}
 use Rattle.disk_model.specs.Images.{Image, sector_at}
-use Rattle.pool_model.specs.Pool.{Pointer, Mark, plain, tracked, loose, is_tracked, since_of, is_at, run_length, tracks, tracked_at}
-use Rattle.pool_model.specs.Pool.{keys_in, insert_pointer, with_pointer}
+use Rattle.pool_model.specs.Pool.{Pointer, Mark, plain, tracked, loose, is_tracked, since_of, is_at, run_length, tracks, tracked_at, keys_in, insert_pointer, with_pointer}
 use Rattle.pool_model.specs.Table.{found, counted, home_of_pointers}
-use Rattle.pool_model.specs.Plain.{Stored, Reply}
+use Rattle.pool_model.specs.Plain.{Reply}
+use Rattle.pool_model.specs.Mirrors.{Stored}
 use Rattle.pool_model.specs.Clash.{HasNoOther, NoOther}
-use Rattle.pool_model.specs.Command.{Course, home_at, or_in, last_tracked, at_home, at_fresh, pointer_at, placed, naming, replied}
-use Rattle.pool_model.specs.Command.{next_fresh, take_fresh}
+use Rattle.pool_model.specs.Command.{Course, home_at, or_in, last_tracked, at_home, at_fresh, pointer_at, placed, naming, replied, next_fresh, take_fresh}
 use Rattle.pool_model.specs.Group.{Standing, opening_of}
 use Rattle.table_state.specs.Pools.{Held, is_slot_at, slots_after, set_slot, block_sector}
 use Rattle.table_state.specs.Closing.{IsNamed, block_places}
@@ -29,7 +28,7 @@ use Rattle.pool_model.proofs.Pointers.{all_insert, none_insert, first_has}
 use Rattle.pool_model.proofs.Homes.{left_by, home_now, none_now, uncounted_zero}
 use Rattle.pool_model.proofs.Rows.{FitsHome, FitsFresh, outside, first}
 use Rattle.pool_model.proofs.Putting.{left_of, home_of, home_of-known}
-use Rattle.table_state.specs.Holding.{StandsOver}
+use Rattle.table_state.specs.Over.{StandsOver}
 use Rattle.pool_model.proofs.Lists.{all_from, all_from_both}
 use Rattle.lane_run.specs.Live.{Live, home_here, sector_or, sector_here, first_mode, put_home, write_of, shared, with_first, put_at, noted}
 use Rattle.lane_run.proofs.Places.{IsNew, new_elsewhere, named_more, find_beside, find_new, any_last, all_more}

@@ -3,7 +3,7 @@ use Rattle.std.proofs.Common.{◌≡◌, ℕ, ◌==◌, Bool, true, false, cond,
 use Rattle.std.specs.List.{AllByRecursion, find}
 use Rattle.std.specs.Option.{option_map}
 use Rattle.pool_model.specs.declared.closed.StoredBlock.{StoredBlock}
-use Rattle.pool_model.specs.Plain.{stored_of}
+use Rattle.pool_model.specs.Mirrors.{stored_of}
 
 -- the block at a place is the one that code finds
 pub find-stored : (cs : List StoredBlock) (place : ℕ)

@@ -13,15 +13,13 @@ use Rattle.pool_model.specs.declared.answers.WriteAnswer.TheVariants as written
 use Rattle.pool_model.specs.Pool.{Pointer, Mark, plain, is_at, run_length, mode_of, keys_in}
 use Rattle.pool_model.specs.Plain.{to_write}
 use Rattle.pool_model.specs.Clash.{HasNoOther}
-use Rattle.pool_model.specs.Command.{Turn, Course, Known, Row, Spot, nowhere, at_home, at_fresh, row, known_home, slot_row, verify_row}
-use Rattle.pool_model.specs.Command.{mode_row, write_row, is_fault, allows, uses_table, placed, naming, replied, after}
+use Rattle.pool_model.specs.Command.{Turn, Course, Known, Row, Spot, nowhere, at_home, at_fresh, row, known_home, slot_row, verify_row, mode_row, write_row, is_fault, allows, uses_table, placed, naming, replied, after}
 use Rattle.pool_model.specs.Group.{Standing, opening_of}
 use Rattle.table_state.specs.Pools.{Held}
 use Rattle.pool_model.proofs.Rows.{SpotFits, FitsHome, FitsFresh, row_fits}
 use Rattle.pool_model.proofs.Putting.{home_of, home_of-known}
-use Rattle.table_state.specs.Holding.{StandsOver}
-use Rattle.lane_run.specs.Live.{Live, is_taken, home_here, sector_here, known_by, first_mode, mode_here, row_here, write_of, put_at}
-use Rattle.lane_run.specs.Live.{after_row}
+use Rattle.table_state.specs.Over.{StandsOver}
+use Rattle.lane_run.specs.Live.{Live, is_taken, home_here, sector_here, known_by, first_mode, mode_here, row_here, write_of, put_at, after_row}
 use Rattle.lane_run.proofs.Places.{IsNew}
 use Rattle.lane_run.specs.Going.{Trusted, IsCourse}
 use Rattle.lane_run.proofs.Courses.{homes_of}

@@ -8,7 +8,8 @@ use Rattle.std.proofs.lemmas.Bool.{lt-ltb, ne_eqb}
 use Rattle.std.proofs.lemmas.Bool.Decides.{nat_tests}
 use Rattle.ddt_entry.specs.Keys.{Keying}
 use Rattle.ddt_entry.specs.declared.key.Key.{Key}
-use Rattle.disk_model.specs.Images.{Image, Stays}
+use Rattle.disk_model.specs.Images.{Image}
+use Rattle.disk_model.specs.DiskLaws.{Stays}
 use Rattle.pool_model.specs.declared.faults.GroupFault.{GroupFault}
 use Rattle.pool_model.specs.declared.faults.GroupFault.TheVariants as faults
 use Rattle.pool_model.specs.declared.notes.Outcome.{Outcome}
@@ -17,17 +18,17 @@ use Rattle.pool_model.specs.declared.commands.Mode.{Mode}
 use Rattle.pool_model.specs.declared.commands.Mode.TheVariants.{Off, On, Verify}
 use Rattle.pool_model.specs.declared.notes.Outcome.TheVariants.{NoSpace}
 use Rattle.pool_model.specs.Pool.{mode_of}
-use Rattle.pool_model.specs.Plain.{WritesBlock, Act, write, read, free, Task, Reply, Told, lanes}
+use Rattle.pool_model.specs.Plain.{Act, write, read, free, Task, Reply, Told, lanes}
+use Rattle.pool_model.specs.Mirrors.{WritesBlock}
 use Rattle.pool_model.specs.Space.{need, space_lacking, changes_in, writes_in, is_write, is_free_act}
 use Rattle.pool_model.specs.Table.{flush_limit}
 use Rattle.pool_model.specs.Clash.{HasNoOther, contents_in, is_on}
 use Rattle.pool_model.specs.Command.{Turn, Course, is_fault}
-use Rattle.pool_model.specs.Group.{Standing, opening_of, course_of, tasks_of, lanes_of, turns_of, lanes_in_turn, lane_by_lane, fresh_of}
-use Rattle.pool_model.specs.Group.{HasEachLane, Agrees, AreFresh, IsFree, after_lanes}
+use Rattle.pool_model.specs.Group.{Standing, opening_of, course_of, tasks_of, lanes_of, turns_of, lanes_in_turn, lane_by_lane, fresh_of, HasEachLane, Agrees, AreFresh, IsFree, after_lanes}
 use Rattle.pool_model.specs.Run.{noted_course, AnswersAsRun, sealed_standing}
 use Rattle.table_state.specs.Pools.{Held}
 use Rattle.table_state.specs.Closing.{block_places}
-use Rattle.table_state.specs.Holding.{StandsOver}
+use Rattle.table_state.specs.Over.{StandsOver}
 use Rattle.lane_run.specs.Groups.{IsFirstWrite, HasNoClash, KeepsWaiting, IsRunFrom}
 use Rattle.lane_run.specs.Going.{IsCourse, Trusted, turns_from, first_course, HasRun, HasRunOver, Opens, lanes_here}
 use Rattle.lane_run.specs.Live.{Live, first_mode, group_here}

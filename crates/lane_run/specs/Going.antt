@@ -1,6 +1,5 @@
 -- A group of writes of lane 0 as the definitions run it, beside what the code has of it.
-use Rattle.std.specs.Prelude.{◌≡◌, ℕ, ◌+◌, ◌-◌, ◌^◌, ◌<◌, ◌≤◌, min, ⊤, Bool, true, false, List, [], ◌∷◌, length, map, take, replicate}
-use Rattle.std.specs.Prelude.{Option, Some, None, Result, Ok, Err, slice_index_or}
+use Rattle.std.specs.Prelude.{◌≡◌, ℕ, ◌+◌, ◌-◌, ◌^◌, ◌<◌, ◌≤◌, min, ⊤, Bool, true, false, List, [], ◌∷◌, length, map, take, replicate, Option, Some, None, Result, Ok, Err, slice_index_or}
 use Rattle.std.specs.List.{AllByRecursion, count_by, list_any, zip}
 use Rattle.std.specs.Option.{option_map}
 use Rattle.ddt_entry.specs.declared.key.Key.{Key}
@@ -15,14 +14,15 @@ use Rattle.pool_model.specs.declared.faults.GroupFault.TheVariants as faults
 use Rattle.pool_model.specs.declared.notes.Outcome.{Outcome}
 use Rattle.pool_model.specs.declared.notes.Outcome.TheVariants as outcomes
 use Rattle.pool_model.specs.Pool.{Pointer, is_at, tracked_at, keys_in}
-use Rattle.pool_model.specs.Plain.{Task, Reply, Stored, LaneTold}
+use Rattle.pool_model.specs.Plain.{Task, Reply, LaneTold}
+use Rattle.pool_model.specs.Mirrors.{Stored}
 use Rattle.pool_model.specs.Clash.{HasNoOther, contents_in}
 use Rattle.pool_model.specs.Command.{Opening, Turn, Course, known_home, last_tracked, is_fault}
 use Rattle.pool_model.specs.Group.{Standing, opening_of, course_of}
 use Rattle.table_state.specs.Pools.{Held, slots_after}
 use Rattle.table_state.specs.Closing.{IsNamed, block_places}
 use Rattle.table_state.specs.Slots.{slot_of}
-use Rattle.table_state.specs.Holding.{StandsOver}
+use Rattle.table_state.specs.Over.{StandsOver}
 use Rattle.lane_run.specs.Live.{Live, is_taken, home_here, sector_here, first_mode}
 
 -- the home that a course knows of a key

@@ -4,7 +4,8 @@ use Rattle.std.specs.List.{AllByRecursion}
 use Rattle.disk_model.specs.Images.{Image, sector_at}
 use Rattle.ddt_entry.specs.declared.key.Key.{Key}
 use Rattle.ddt_entry.specs.declared.entry.Home.{Home}
-use Rattle.pool_model.specs.Plain.{WritesBlock, Task, lanes, Told}
+use Rattle.pool_model.specs.Plain.{Task, lanes, Told}
+use Rattle.pool_model.specs.Mirrors.{WritesBlock}
 use Rattle.pool_model.specs.Table.{found}
 use Rattle.pool_model.specs.Clash.{HasNoOther, group_trusted, contents_in}
 use Rattle.pool_model.specs.Group.{Standing, Rules, AreFresh, IsFree}

@@ -1,9 +1,8 @@
 -- A group of writes of lane 0 as far as it has come, beside the pool as the newest sealed group left it: what one write makes of it.
-use Rattle.std.specs.Prelude.{◌≡◌, ◌⊎◌, ℕ, ◌+◌, ◌-◌, ◌^◌, ◌<◌, ◌≤◌, min, ⊤, Bool, true, ◌&&◌, ◌||◌, ◌==◌, List, [], ◌∷◌, ◌++◌, take, fold}
-use Rattle.std.specs.Prelude.{length, Option, Some, None, unwrap_or, slice_get, if◌then◌else◌}
+use Rattle.std.specs.Prelude.{◌≡◌, ◌⊎◌, ℕ, ◌+◌, ◌-◌, ◌^◌, ◌<◌, ◌≤◌, min, ⊤, Bool, true, ◌&&◌, ◌||◌, ◌==◌, List, [], ◌∷◌, ◌++◌, take, fold, length, Option, Some, None, unwrap_or, slice_get, if◌then◌else◌}
 use Rattle.std.specs.List.{AllByRecursion, count_by, find, filter_map, list_any}
 use Rattle.ddt_entry.specs.Keys.{key_eq}
-use Rattle.ddt_entry.specs.Records.{KeyFits}
+use Rattle.ddt_entry.specs.Spelling.{KeyFits}
 use Rattle.ddt_entry.specs.declared.key.Key.{Key}
 use Rattle.ddt_entry.specs.declared.entry.Home.{Home}
 use Rattle.ddt_entry.specs.declared.entry.Entry.{Entry}
@@ -15,10 +14,10 @@ use Rattle.pool_model.specs.declared.answers.WriteAnswer.{WriteAnswer}
 use Rattle.pool_model.specs.declared.answers.WriteAnswer.TheVariants as written
 use Rattle.pool_model.specs.declared.closed.SlotChange.{SlotChange}
 use Rattle.pool_model.specs.Pool.{Mark, plain, tracked, loose, since_of, is_tracked, with_key}
-use Rattle.pool_model.specs.Plain.{Act, write, read, free, Task, Reply, to_write, Stored}
+use Rattle.pool_model.specs.Plain.{Act, write, read, free, Task, Reply, to_write}
+use Rattle.pool_model.specs.Mirrors.{Stored}
 use Rattle.pool_model.specs.Table.{TableState, found, entry_at}
-use Rattle.pool_model.specs.Command.{Opening, Known, Spot, nowhere, at_home, at_fresh, Row, row, mode_row, allows, is_fault, uses_table}
-use Rattle.pool_model.specs.Command.{pointer_at}
+use Rattle.pool_model.specs.Command.{Opening, Known, Spot, nowhere, at_home, at_fresh, Row, row, mode_row, allows, is_fault, uses_table, pointer_at}
 use Rattle.pool_model.specs.Group.{settled, change_from}
 use Rattle.table_state.specs.Pools.{Held, is_slot_at, block_sector}
 use Rattle.table_state.specs.Closing.{PlainClosed}

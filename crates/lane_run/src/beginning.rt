@@ -2,10 +2,10 @@
 
 ghost use Rattle.std.specs.Prelude.{◌≡◌, ◌≤◌, ◌<◌, ◌+◌, ◌-◌, ◌^◌, ℕ, List, filter, min, nat_lt, not, length, map, IfOk};
 ghost use Rattle.std.specs.List.{AllByRecursion, count_by};
-ghost use Rattle.disk_model.specs.Images.{Stays};
-ghost use Rattle.disk_model.specs.Crashes.{LeavesOnly, SameOutcomes};
+ghost use Rattle.disk_model.specs.DiskLaws.{Stays, SameOutcomes};
+ghost use Rattle.disk_model.specs.Crashes.{LeavesOnly};
 ghost use Rattle.grant_book.specs.Sectors.{AreFirstFree};
-ghost use Rattle.pool_model.specs.Plain.{task_of};
+ghost use Rattle.pool_model.specs.Mirrors.{task_of};
 ghost use Rattle.pool_model.specs.Table.{counted_homes};
 ghost use Rattle.table_state.specs.Closing.{IsInRange};
 ghost use Rattle.table_state.specs.Sound.{IsSound};

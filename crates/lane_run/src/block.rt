@@ -5,7 +5,7 @@ ghost use Rattle.std.specs.List.{AllByRecursion, find};
 ghost use Rattle.std.specs.Option.{option_copied};
 ghost use Rattle.disk_model.specs.Images.{Image};
 ghost use Rattle.disk_model.specs.Faults.{HasCause};
-ghost use Rattle.pool_model.specs.Plain.{stored_of};
+ghost use Rattle.pool_model.specs.Mirrors.{stored_of};
 ghost use Rattle.lane_run.specs.Live.{sector_here};
 
 use disk_model::{Disk, Failed, SECTOR_BYTES};

@@ -4,7 +4,8 @@ ghost use Rattle.std.specs.Prelude.{◌≡◌, ◌≤◌, ◌<◌, ℕ, true, Li
 ghost use Rattle.std.specs.List.{AllByRecursion};
 ghost use Rattle.disk_model.specs.Images.{Image};
 ghost use Rattle.pool_model.specs.declared.answers.WriteAnswer.TheVariants as written;
-ghost use Rattle.pool_model.specs.Plain.{stored_of, to_write};
+ghost use Rattle.pool_model.specs.Plain.{to_write};
+ghost use Rattle.pool_model.specs.Mirrors.{stored_of};
 ghost use Rattle.pool_model.specs.Command.{row, nowhere, verify_row, is_fault};
 ghost use Rattle.home_rules.specs.Rows.{row_of};
 ghost use Rattle.lane_run.specs.Live.{CountsFault, IsChosen, IsHomeOf, IsSince, first_mode, home_here, is_taken, known_by, mode_here};

@@ -1,7 +1,8 @@
 //! What a group hands on when it closes: its note, and what its sync needs.
 
 ghost use Rattle.std.specs.Prelude.{◌≡◌, ◌≤◌, ◌+◌, ◌^◌, ◌<◌, [], ◌∷◌, map, length, IfOk, OnErr};
-ghost use Rattle.pool_model.specs.Plain.{reply_of, task_of, told_of};
+ghost use Rattle.pool_model.specs.Plain.{reply_of, told_of};
+ghost use Rattle.pool_model.specs.Mirrors.{task_of};
 ghost use Rattle.table_state.specs.Closing.{IsInRange, block_places, closed_of};
 ghost use Rattle.lane_run.specs.Live.{group_here};
 ghost use Rattle.lane_run.specs.Going.{lanes_here};

@@ -3,7 +3,7 @@
 ghost use Rattle.std.specs.Prelude.{◌≡◌, ◌≤◌, ◌<◌, ◌^◌, length, map, IfOk};
 ghost use Rattle.std.specs.List.{AllByRecursion};
 ghost use Rattle.grant_book.specs.Sectors.{AreFirstFree};
-ghost use Rattle.pool_model.specs.Plain.{task_of};
+ghost use Rattle.pool_model.specs.Mirrors.{task_of};
 ghost use Rattle.pool_model.specs.Table.{counted_homes};
 ghost use Rattle.table_state.specs.Closing.{IsInRange};
 ghost use Rattle.table_state.specs.Sound.{IsSound};

@@ -2,7 +2,8 @@ ghost use Rattle.std.specs.Prelude.{◌≡◌, ℕ, ◌+◌, ◌<◌, ◌^◌, �
 ghost use Rattle.std.specs.List.{list_any};
 ghost use Rattle.ddt_entry.specs.Keys.{key_eq};
 ghost use Rattle.pool_model.specs.Pool.{tracked};
-ghost use Rattle.pool_model.specs.Plain.{stored_of, reply_of, to_write};
+ghost use Rattle.pool_model.specs.Plain.{reply_of, to_write};
+ghost use Rattle.pool_model.specs.Mirrors.{stored_of};
 ghost use Rattle.pool_model.specs.Command.{at_home, at_fresh};
 ghost use Rattle.table_state.specs.Slots.{kind_of};
 ghost use Rattle.home_rules.specs.Rows.{mark_since, spot_of};
@@ -39,7 +40,8 @@ pub struct LiveGroup {
 impl Model for LiveGroup {
     ghost use Rattle.lane_run.specs.Live.{Live};
     ghost use Rattle.std.specs.Prelude.{map};
-    ghost use Rattle.pool_model.specs.Plain.{stored_of, reply_of};
+    ghost use Rattle.pool_model.specs.Plain.{reply_of};
+    ghost use Rattle.pool_model.specs.Mirrors.{stored_of};
 
     ghost Value = { Live };
 

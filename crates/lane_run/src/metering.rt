@@ -2,13 +2,13 @@
 
 ghost use Rattle.std.specs.Prelude.{◌≡◌, ◌≤◌, ◌<◌, ◌+◌, ◌-◌, ◌^◌, min, not, length, map, Some, None, IfOk};
 ghost use Rattle.std.specs.List.{AllByRecursion, count_by};
-ghost use Rattle.disk_model.specs.Images.{Stays};
-ghost use Rattle.disk_model.specs.Crashes.{LeavesOnly, SameOutcomes};
+ghost use Rattle.disk_model.specs.DiskLaws.{Stays, SameOutcomes};
+ghost use Rattle.disk_model.specs.Crashes.{LeavesOnly};
 ghost use Rattle.disk_model.specs.Faults.{Rose};
 ghost use Rattle.grant_book.specs.Sectors.{AreFirstFree};
 ghost use Rattle.pool_model.specs.declared.faults.GroupFault.TheVariants as faults;
 ghost use Rattle.pool_model.specs.declared.notes.Outcome.TheVariants as outcomes;
-ghost use Rattle.pool_model.specs.Plain.{task_of};
+ghost use Rattle.pool_model.specs.Mirrors.{task_of};
 ghost use Rattle.pool_model.specs.Space.{need, space_lacking};
 ghost use Rattle.pool_model.specs.Table.{flush_limit, counted_homes};
 ghost use Rattle.table_state.specs.Closing.{IsInRange};

@@ -2,7 +2,7 @@
 
 ghost use Rattle.std.specs.Prelude.{◌≡◌, ◌+◌, ◌≤◌, ◌<◌, ◌^◌, ℕ, List, length, map, Some, IfSome, IfOk};
 ghost use Rattle.std.specs.List.{AllByRecursion};
-ghost use Rattle.pool_model.specs.Plain.{content_of, act_of, task_of};
+ghost use Rattle.pool_model.specs.Mirrors.{content_of, act_of, task_of};
 ghost use Rattle.pool_model.specs.Command.{uses_table};
 ghost use Rattle.lane_run.specs.Groups.{IsFirstWrite};
 ghost use Rattle.lane_run.specs.Live.{IsWritten, IsReady, WritesAct, home_here};

@@ -11,7 +11,8 @@ use Rattle.ddt_entry.specs.Bytes.{AreBytes}
 use Rattle.disk_model.specs.Images.{Image, sector_at}
 use Rattle.disk_model.proofs.Sectors.{sector_at-set, sector_at-set_other}
 use Rattle.page_tree.specs.Pointers.{FitsPointer, null_pointer}
-use Rattle.page_tree.specs.Chains.{ChainPage, FitsPage, PageWrite, Chain, Walked, HoldsWrites, AreOpen, SameBut, record_len, page_records, pages_for, is_null, is_open_to, is_chain_page, chain_page_bytes, chain_page_in, holds_page, behind_records, walk, chain_in, pointer_or_null, page_before, write_page, chain_of}
+use Rattle.page_tree.specs.Chains.{ChainPage, Walked, record_len, page_records, is_null, is_open_to, is_chain_page, chain_page_in, holds_page, behind_records, walk, chain_in, pointer_or_null}
+use Rattle.page_tree.specs.ChainWrites.{FitsPage, PageWrite, Chain, HoldsWrites, AreOpen, SameBut, pages_for, chain_page_bytes, page_before, write_page, chain_of}
 use Rattle.page_tree.specs.declared.pointer.PagePtr.{PagePtr}
 use Rattle.page_tree.proofs.ChainLaws.{chain_page_in-chain_page_bytes, is_chain_page-chain_page_bytes}
 use Rattle.page_tree.proofs.OpenPlaces.{all_mapped, is_open-parts, apart_from_first, open_places-below, open_places-fewer}

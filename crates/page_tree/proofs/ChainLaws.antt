@@ -9,7 +9,8 @@ use Rattle.std.proofs.lemmas.Slice.Eq.{bytes_eq-Decides}
 use Rattle.ddt_entry.specs.Bytes.{bytes_at, number_bytes, zeros}
 use Rattle.ddt_entry.proofs.Bytes.{length-number_bytes, length-zeros, bytes_at-behind, number_at-is}
 use Rattle.page_tree.specs.Pointers.{null_pointer, pointer_bytes, pointer_in}
-use Rattle.page_tree.specs.Chains.{ChainPage, FitsPage, chain_text, record_len, page_records, is_null, chain_head, chain_page_bytes, parts_in, count_in, next_in, is_chain_page, chain_page_in}
+use Rattle.page_tree.specs.Chains.{ChainPage, chain_text, record_len, page_records, is_null, parts_in, count_in, next_in, is_chain_page, chain_page_in}
+use Rattle.page_tree.specs.ChainWrites.{FitsPage, chain_head, chain_page_bytes}
 use Rattle.page_tree.specs.declared.pointer.PagePtr.{PagePtr}
 use Rattle.page_tree.proofs.PointerLaws.{length-pointer_bytes, pointer_in-pointer_bytes}
 

@@ -5,7 +5,8 @@ use Rattle.std.specs.Str.{bytes_eq}
 use Rattle.std.proofs.lemmas.Bool.{and_parts, leb-true, eqb-true}
 use Rattle.std.proofs.lemmas.List.{length-append}
 use Rattle.disk_model.specs.Images.{Image, sector_at}
-use Rattle.page_tree.specs.Chains.{Walked, chain_text, record_len, page_records, pages_for, is_null, is_open_to, is_chain_page, count_in, next_in, parts_in, chain_page_in, holds_page, behind_records, walk, chain_in, pointer_or_null}
+use Rattle.page_tree.specs.Chains.{Walked, chain_text, record_len, page_records, is_null, is_open_to, is_chain_page, count_in, next_in, parts_in, chain_page_in, holds_page, behind_records, walk, chain_in, pointer_or_null}
+use Rattle.page_tree.specs.ChainWrites.{pages_for}
 use Rattle.page_tree.specs.declared.pointer.PagePtr.{PagePtr}
 
 -- ---- The records of a page

@@ -1,14 +1,16 @@
 -- How the writes of a chain go on from page to page.
-use Rattle.std.proofs.Common.{◌≡◌, ◌≢◌, ℕ, ◌+◌, ◌*◌, ◌<◌, true, false, ◌==◌, List, [], ◌∷◌, ◌++◌, Option, Some, None, length, get_or, take, drop, refl, sym, ap, subst, ◌∙◌, arith, eq-eqb}
+use Rattle.std.proofs.Common.{◌≡◌, ◌≢◌, ℕ, ◌+◌, ◌*◌, ◌<◌, true, false, ◌==◌, List, [], ◌∷◌, ◌++◌, Option, Some, None, length, get_or, take, drop, sym, ap, subst, ◌∙◌, arith, eq-eqb}
 use Rattle.std.specs.Prelude.{fold, slice_set}
 use Rattle.std.specs.List.{list_any}
 use Rattle.std.proofs.lemmas.List.{drop_more, drop-drop, length-set}
 use Rattle.sha2.specs.Sha256.{sha256}
 use Rattle.std.proofs.lemmas.List.Folds.{list_any_at}
 use Rattle.std.proofs.lemmas.List.Sums.{fold-append}
-use Rattle.disk_model.specs.Images.{Image, Torn, Holds, MayTouch}
+use Rattle.disk_model.specs.Images.{Image}
+use Rattle.disk_model.specs.DiskLaws.{Torn, Holds, MayTouch}
 use Rattle.disk_model.proofs.Sectors.{sector_at-set_other}
-use Rattle.page_tree.specs.Chains.{PageWrite, Chain, page_records, pages_for, write_page, page_before, chained, chain_of, Written, SameBut, MayTouchAll, ChainLeaves}
+use Rattle.page_tree.specs.Chains.{page_records}
+use Rattle.page_tree.specs.ChainWrites.{PageWrite, Chain, pages_for, write_page, page_before, chained, chain_of, Written, SameBut, MayTouchAll, ChainLeaves}
 use Rattle.page_tree.specs.declared.pointer.PagePtr.{PagePtr}
 
 -- the writes of this chain were made, and this is its root
@@ -29,15 +31,6 @@ chain_more places records left within =
   where
     behind : drop page_records (drop (page_records * left) records) ≡ drop (page_records * (left + 1)) records
     behind = drop-drop page_records (page_records * left) records ∙ ap (λ n. drop n records) (omega arith)
-
--- nothing was written yet
-pub written_none : (told : Option Image) → Written told told []
-written_none None = tt
-written_none (Some image) = refl
-
-pub touched_none : (told : Option Image) (places : List ℕ) → MayTouchAll told told places
-touched_none None places = tt
-touched_none (Some image) places = (image, refl, record { count = refl; others = λ at apart. refl })
 
 -- one write more
 pub written_more : (old mid new : Option Image) (writes : List PageWrite) (sector : ℕ) (bytes : List ℕ) → Written old mid writes → Holds mid new sector bytes → Written old new (writes ++ record { sector = sector; bytes = bytes } ∷ [])
@@ -83,10 +76,6 @@ module _ (places : List ℕ) (left : ℕ) (inside : left < length places) where
   leaves_more old mid earlier c torn =
       let from = earlier torn.0 torn.1 in
       (from.0, from.1, torn_more from.0 torn.0 c from.2 torn.2)
-
--- at the start
-pub leaves_none : (places : List ℕ) (old : Image → Type 0) (c : Image) → old c → ChainLeaves places old c
-leaves_none places old c left = (c, left, record { count = refl; others = λ at none. refl })
 
 -- a page in front of what was written so far
 pub chain_step : (places : List ℕ) (records : List (List ℕ)) (left earlier : ℕ) → left ≡ earlier + 1 → earlier < length places → (old mid new : Option Image) (next : Option PagePtr) (page : List (List ℕ)) (pointer : PagePtr)

@@ -1,9 +1,10 @@
 -- What a digest is: 32 bytes.
-use Rattle.std.proofs.Common.{◌≡◌, ℕ, zero, suc, ◌*◌, ◌/◌, ◌^◌, ◌<◌, List, [], ◌∷◌, ◌++◌, length, slice_index, refl, arith, mod-lt}
+use Rattle.std.proofs.Common.{◌≡◌, ℕ, zero, suc, ◌*◌, ◌/◌, ◌^◌, ◌<◌, List, [], ◌∷◌, length, slice_index, refl, arith, mod-lt}
 use Rattle.std.specs.Int.{w32, byte_at, to_be_bytes}
 use Rattle.std.proofs.lemmas.List.{length-append}
 use Rattle.sha2.specs.Sha256.{digest_bytes, final_hash, initial_hash_256, sha256}
 use Rattle.ddt_entry.specs.Bytes.{AreBytes}
+use Rattle.ddt_entry.proofs.Bytes.{AreBytes-append}
 
 length-digest_bytes : (hash : List ℕ) (n : ℕ) → length (digest_bytes hash n) ≡ 4 * n
 unfolding digest_bytes
@@ -19,11 +20,6 @@ length-sha256 message = length-digest_bytes (final_hash initial_hash_256 message
 byte_at-lt : (k n : ℕ) → byte_at k n < 256
 byte_at-lt zero n = mod-lt n (omega arith)
 byte_at-lt (suc k) n = mod-lt (n / 256 ^ suc k) (omega arith)
-
-AreBytes-append : (xs ys : List ℕ) → AreBytes xs → AreBytes ys → AreBytes (xs ++ ys)
-AreBytes-append [] ys all_xs all_ys i = all_ys i
-AreBytes-append (x ∷ xs) ys all_xs all_ys zero = all_xs 0
-AreBytes-append (x ∷ xs) ys all_xs all_ys (suc i) = AreBytes-append xs ys (λ k. all_xs (suc k)) all_ys i
 
 AreBytes-four : (a b c d : ℕ) → a < 256 → b < 256 → c < 256 → d < 256 → AreBytes (a ∷ b ∷ c ∷ d ∷ [])
 AreBytes-four a b c d first second third fourth zero = first

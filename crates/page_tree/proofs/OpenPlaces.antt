@@ -6,7 +6,8 @@ use Rattle.std.proofs.lemmas.Bool.{and_parts, and_from, both_ways, leb-true, ltb
 use Rattle.std.proofs.lemmas.List.{append-nil}
 use Rattle.std.proofs.lemmas.List.Folds.{list_any-append}
 use Rattle.std.proofs.lemmas.Map.Steps.{length-le_from_distinct_below}
-use Rattle.page_tree.specs.Chains.{AreOpen, is_open_to}
+use Rattle.page_tree.specs.Chains.{is_open_to}
+use Rattle.page_tree.specs.ChainWrites.{AreOpen}
 
 -- what holds of each item of a list
 pub all_mapped : {X : Type 0} (P Q : X → Type 0) → ((x : X) → P x → Q x) → (xs : List X) → AllByRecursion P xs → AllByRecursion Q xs

@@ -6,6 +6,7 @@ use Rattle.ddt_entry.specs.Bytes.{bytes_at, number_bytes, zeros, AreBytes}
 use Rattle.page_tree.specs.Pointers.{FitsPointer, null_pointer, pointer_bytes, pointer_in, pointers_in}
 use Rattle.page_tree.specs.declared.pointer.PagePtr.{PagePtr}
 use Rattle.ddt_entry.proofs.Bytes.{length-number_bytes, length-bytes_at, bytes_at-behind, take-add, AreBytes-drop, AreBytes-bytes_at, number_at-is, number_at-lt, number_bytes-at_8}
+use Rattle.page_tree.specs.declared.pointer.TheConstants.PagePtr.{NULL}
 
 abbrev pointer_of : ℕ → List ℕ → PagePtr
 pointer_of sector digest = record { sector = sector; digest = digest }
@@ -46,6 +47,10 @@ pub pointer_bytes-pointer_in : (bytes : List ℕ) → AreBytes bytes → 40 ≤ 
 unfolding pointer_in pointer_bytes
 pointer_bytes-pointer_in bytes fits within =
     ap (λ (xs : List ℕ). xs ++ bytes_at 32 8 bytes) (number_bytes-at_8 0 bytes fits (omega arith)) ∙ bytes_at-two 8 32 bytes
+
+-- the null pointer of the code is that of the definitions
+pub null-value : NULL ≡ null_pointer
+null-value = refl
 
 -- the null pointer is 40 zeros
 pub pointer_bytes-null_pointer : pointer_bytes null_pointer ≡ zeros 40

@@ -6,8 +6,10 @@ use Rattle.std.proofs.lemmas.Bool.{and_parts}
 use Rattle.std.proofs.lemmas.Bool.Decides.{nat_tests}
 use Rattle.std.proofs.lemmas.List.{append-nil}
 use Rattle.sha2.specs.Sha256.{sha256}
-use Rattle.disk_model.specs.Images.{Image, Gives, sector_at}
-use Rattle.page_tree.specs.Chains.{Walked, is_null, is_open_to, is_chain_page, count_in, page_records, next_in, chain_page_in, holds_page, behind_records, walk, chain_in, pointer_or_null, HasWalked}
+use Rattle.disk_model.specs.Images.{Image, sector_at}
+use Rattle.disk_model.specs.DiskLaws.{Gives}
+use Rattle.page_tree.specs.Chains.{Walked, is_null, is_open_to, is_chain_page, count_in, page_records, next_in, chain_page_in, holds_page, behind_records, walk, chain_in, pointer_or_null}
+use Rattle.page_tree.specs.Readers.{HasWalked}
 use Rattle.page_tree.specs.declared.pointer.PagePtr.{PagePtr}
 
 -- the walk from the root is what was read so far, and then the walk from here on
@@ -64,11 +66,6 @@ module _ (sectors most : ℕ) (whole : Image → Option Walked) (named : List �
       further b =
           if b then behind_records (chain_page_in (sector_at image pointer.sector)).records (walk most image sectors (named ++ pointer.sector ∷ []) (next_in (sector_at image pointer.sector)))
           else None
-
--- a walk of no more pages is none
-pub told_past : (told : Option Image) (sectors : ℕ) (whole : Image → Option Walked) (named : List ℕ) (old new : List (List ℕ)) (pointer : PagePtr) → IfSome told (λ image. Continues image sectors (whole image) 0 named old new pointer) → IfSome told (λ image. whole image ≡ None)
-told_past None sectors whole named old new pointer so = tt
-told_past (Some image) sectors whole named old new pointer so = so.same
 
 -- with a page that belongs there the walk goes on
 pub told_step : (told : Option Image) (sectors most : ℕ) (whole : Image → Option Walked) (named : List ℕ) (old new more : List (List ℕ)) (pointer : PagePtr) (page : List ℕ)

@@ -2,3 +2,4 @@ pub mod Chains
 pub mod Faults
 pub mod Pointers
 pub mod Readers
+pub mod ChainWrites

@@ -1,10 +1,10 @@
-ghost use Rattle.std.specs.Prelude.{◌≡◌, ◌≤◌, ◌<◌, ◌^◌, ◌++◌, ℕ, List, length, take, drop, fold, All, Some, IfOk, OnOk, OnErr};
-ghost use Rattle.std.specs.List.{AllByRecursion};
+ghost use Rattle.std.specs.Prelude.{◌≡◌, ◌≤◌, ◌<◌, length, All, Some, IfOk, OnOk, OnErr};
 ghost use Rattle.sha2.specs.Sha256.{sha256};
-ghost use Rattle.disk_model.specs.Images.{Image, Torn, Holds, MayTouch};
+ghost use Rattle.disk_model.specs.Images.{Image};
+ghost use Rattle.disk_model.specs.DiskLaws.{Torn, Holds, MayTouch};
 ghost use Rattle.disk_model.specs.Crashes.{LeavesOnly};
 ghost use Rattle.disk_model.specs.Accounts.{Accounts};
-ghost use Rattle.page_tree.specs.Chains.{record_len, page_before, write_page, chain_of, chain_in, pages_for, Written, HoldsWrites, AreOpen, MayTouchAll, ChainLeaves};
+ghost use Rattle.page_tree.specs.ChainWrites.{page_before, write_page, chain_of, pages_for, Written, MayTouchAll, ChainLeaves};
 
 use crate::chain_page::{PAGE_RECORDS, chain_page_of};
 use crate::pointer::PagePtr;
@@ -65,13 +65,3 @@ pub fn write_chain<D: Disk>(
     }
     Ok(next)
 }
-
-/// A chain that was written at open places is held by the image, and an image that holds it gives back
-/// its records from its root, with its places named behind those that were.
-pub fn chain_is_read_back()
-    ensures held { (image : Image) (sectors : ℕ) (named places : List ℕ) (records : List (List ℕ)) → AreOpen sectors named places → sectors ≤ length image
-        → HoldsWrites (fold write_page image (chain_of places records).writes) (chain_of places records).writes }
-    ensures back { (image : Image) (sectors : ℕ) (named places : List ℕ) (records : List (List ℕ)) → 0 < sectors → length places ≡ pages_for (length records)
-        → AllByRecursion (λ bytes. length bytes ≡ record_len) records → AreOpen sectors named places → sectors ≤ 2 ^ 64 → HoldsWrites image (chain_of places records).writes
-        → chain_in image sectors named (chain_of places records).root ≡ Some (record { named = named ++ places; records = records }) }
-{}

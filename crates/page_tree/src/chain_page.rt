@@ -1,6 +1,7 @@
-ghost use Rattle.std.specs.Prelude.{◌≡◌, ◌≤◌, ◌<◌, ◌^◌, ℕ, length, take, true};
+ghost use Rattle.std.specs.Prelude.{◌≡◌, ◌≤◌, ◌<◌, ◌^◌, length, take};
 ghost use Rattle.std.specs.Str.{bytes_eq};
-ghost use Rattle.page_tree.specs.Chains.{chain_text, is_null, chain_head, chain_page_bytes, count_in, next_in, is_chain_page, chain_page_in, ChainPage, FitsPage};
+ghost use Rattle.page_tree.specs.Chains.{chain_text, is_null, count_in, next_in, is_chain_page};
+ghost use Rattle.page_tree.specs.ChainWrites.{chain_head, chain_page_bytes};
 
 use crate::front::{full_array, pad_to, put, put_u32};
 use crate::pointer::PagePtr;
@@ -14,7 +15,7 @@ const CHAIN_TEXT: [u8; 4] = *b"FLT0";
 pub const PAGE_RECORDS: usize = 56;
 
 /// What stands before the records of a page.
-#[tactic(auto, unfolding(crate::specs::Chains::chain_head))]
+#[tactic(auto, unfolding(crate::specs::ChainWrites::chain_head))]
 fn head_of(next: &PagePtr, records: &[[u8; 72]]) -> [u8; 48]
     requires fits { length records.now < 2 ^ 32 }
     ensures { result ≡ chain_head (record { next = next.now; records = records.now }) }
@@ -27,7 +28,7 @@ fn head_of(next: &PagePtr, records: &[[u8; 72]]) -> [u8; 48]
 }
 
 /// A page of a chain: its records, of which there are 56 at the most, and the pointer to the next page.
-#[tactic(auto, unfolding(crate::specs::Chains::chain_page_bytes))]
+#[tactic(auto, unfolding(crate::specs::ChainWrites::chain_page_bytes))]
 pub(crate) fn chain_page_of(next: &PagePtr, records: &[[u8; 72]]) -> [u8; 4096]
     requires room { length records.now ≤ 56 }
     ensures { result ≡ chain_page_bytes (record { next = next.now; records = records.now }) }
@@ -82,10 +83,3 @@ pub(crate) fn has_form(page: &[u8; 4096]) -> bool
         && count <= PAGE_RECORDS as u32
         && (is_null_pointer(&next_of(page)) || count == PAGE_RECORDS as u32)
 }
-
-/// A page of a chain is read back from its bytes, which fill a sector.
-pub fn chain_page_is_read_back()
-    ensures len { (page : ChainPage) → FitsPage page → length (chain_page_bytes page) ≡ 4096 }
-    ensures form { (page : ChainPage) → FitsPage page → is_chain_page (chain_page_bytes page) ≡ true }
-    ensures back { (page : ChainPage) → FitsPage page → chain_page_in (chain_page_bytes page) ≡ page }
-{}

@@ -3,7 +3,8 @@ ghost use Rattle.std.specs.List.{list_any};
 ghost use Rattle.std.specs.Str.{bytes_eq};
 ghost use Rattle.sha2.specs.Sha256.{sha256};
 ghost use Rattle.disk_model.specs.Faults.{Rose, HasCause};
-ghost use Rattle.page_tree.specs.Chains.{count_in, next_in, chain_page_in, is_chain_page, is_open_to, chain_in, pointer_or_null, HasWalked};
+ghost use Rattle.page_tree.specs.Chains.{count_in, next_in, chain_page_in, is_chain_page, is_open_to, chain_in, pointer_or_null};
+ghost use Rattle.page_tree.specs.Readers.{HasWalked};
 ghost use Rattle.page_tree.specs.declared.fault.PageFault.TheVariants.{ReadFault, Damaged};
 
 use crate::chain_page::{count_of, has_form, is_null_pointer, next_of};

@@ -13,8 +13,13 @@
 //!
 //! A chain keeps a list of records of 72 bytes, 56 on a page; each page names the next one.
 //! `write_chain` writes its pages from the last to the first, and its clause on crashes says that
-//! no other sector is touched; `read_chain` walks it from its root. What is written at places that are
-//! open, each once, outside the ring and not named yet, is read back, as `chain_is_read_back` says.
+//! no other sector is touched; `read_chain` walks it from its root.
+//!
+//! Laws of `proofs/` say that what is written is read back: a chain at places that are open, each once,
+//! outside the ring and not named yet, `ChainBack.{writes_are_held, chain_is_read_back}`; a page,
+//! `ChainLaws.{length-chain_page_bytes, is_chain_page-chain_page_bytes, chain_page_in-chain_page_bytes}`;
+//! a pointer, and what spelled it, `PointerLaws.{length-pointer_bytes, pointer_in-pointer_bytes,
+//! FitsPointer-pointer_in, pointer_bytes-pointer_in, null-value, pointer_bytes-null_pointer}`.
 //!
 //! The ring of seals and every writer and reader of pages stand on this crate.
 #![tactic(auto)]
@@ -27,11 +32,9 @@ pub mod front;
 mod pointer;
 mod reader;
 
-pub use chain::{chain_is_read_back, write_chain};
-pub use chain_page::{PAGE_RECORDS, chain_page_is_read_back};
+pub use chain::write_chain;
+pub use chain_page::PAGE_RECORDS;
 pub use chain_walk::{RecordList, SectorList, read_chain};
 pub use fault::{FindFault, PageFault};
-pub use pointer::{
-    PagePtr, null_is_zeros, pointer_fits, pointers_fit, read_is_spelled, spelled_is_read,
-};
+pub use pointer::{PagePtr, pointer_fits, pointers_fit};
 pub use reader::{PageReader, PlainReader};

@@ -1,7 +1,6 @@
-ghost use Rattle.std.specs.Prelude.{◌≡◌, ◌≤◌, ◌++◌, List, ℕ, length, take};
+ghost use Rattle.std.specs.Prelude.{◌≡◌, ◌≤◌, length};
 ghost use Rattle.std.specs.List.{AllByRecursion};
-ghost use Rattle.ddt_entry.specs.Bytes.{AreBytes, zeros};
-ghost use Rattle.page_tree.specs.Pointers.{FitsPointer, null_pointer, pointer_bytes, pointer_in};
+ghost use Rattle.page_tree.specs.Pointers.{FitsPointer, pointer_bytes, pointer_in};
 ghost use Rattle.page_tree.specs.declared.pointer.PagePtr.{PagePtr};
 
 use crate::front::{full_array, put, put_u64};
@@ -47,27 +46,6 @@ impl PagePtr {
         }
     }
 }
-
-/// A pointer that fits is read back, whatever follows it.
-pub fn spelled_is_read()
-    ensures len { (pointer : PagePtr) → FitsPointer pointer → length (pointer_bytes pointer) ≡ 40 }
-    ensures back { (pointer : PagePtr) (rest : List ℕ) → FitsPointer pointer →
-        pointer_in (pointer_bytes pointer ++ rest) ≡ pointer }
-{}
-
-/// Bytes are spelled by what is read of them.
-pub fn read_is_spelled()
-    ensures fits { (bytes : List ℕ) → AreBytes bytes → 40 ≤ length bytes →
-        FitsPointer (pointer_in bytes) }
-    ensures again { (bytes : List ℕ) → AreBytes bytes → 40 ≤ length bytes →
-        pointer_bytes (pointer_in bytes) ≡ take 40 bytes }
-{}
-
-/// The null pointer is 40 zeros.
-pub fn null_is_zeros()
-    ensures value { PagePtr.NULL ≡ null_pointer }
-    ensures bytes { pointer_bytes null_pointer ≡ zeros 40 }
-{}
 
 /// A pointer that code has in hand fits, by the types of its fields.
 pub fn pointer_fits(pointer: PagePtr)

@@ -1,6 +1,6 @@
 ghost use Rattle.std.specs.Prelude.{◌≡◌, ◌≤◌, ◌<◌, ⊤, ℕ, Option, OnOk, IsErrOf, Some};
 ghost use Rattle.sha2.specs.Sha256.{sha256};
-ghost use Rattle.disk_model.specs.Images.{Gives};
+ghost use Rattle.disk_model.specs.DiskLaws.{Gives};
 ghost use Rattle.disk_model.specs.Faults.{Rose};
 ghost use Rattle.page_tree.specs.Readers.{LacksDigest};
 ghost use Rattle.page_tree.specs.declared.fault.FindFault.TheVariants.{ReadFault, Damaged};

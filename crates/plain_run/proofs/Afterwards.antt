@@ -1,12 +1,11 @@
 -- What stands after a group.
-use Rattle.std.proofs.Common.{◌≡◌, ◌==◌, ℕ, ◌+◌, ◌<◌, true, false, cond, List, [], ◌∷◌, ◌++◌, length, take, get_or, map, Option, Some, None, Result, Ok, Err, IfOk, refl, sym, ap, ◌∙◌}
-use Rattle.std.specs.List.{find, filter_map, cons_option}
-use Rattle.std.proofs.lemmas.List.{take_more}
-use Rattle.std.proofs.lemmas.List.Elements.{filter_map-append}
-use Rattle.std.specs.Option.{option_map_or, option_to_list}
+use Rattle.std.proofs.Common.{◌≡◌, ◌==◌, ℕ, ◌+◌, true, false, cond, List, [], ◌∷◌, ◌++◌, map, Some, Result, Ok, Err, IfOk, refl, ◌∙◌}
+use Rattle.std.specs.List.{find}
+use Rattle.std.specs.Option.{option_map_or}
 use Rattle.pool_model.specs.declared.commands.Command.{Command}
 use Rattle.pool_model.specs.declared.notes.GroupNote.{GroupNote}
-use Rattle.pool_model.specs.Plain.{task_of, told_of}
+use Rattle.pool_model.specs.Plain.{told_of}
+use Rattle.pool_model.specs.Mirrors.{task_of}
 use Rattle.pool_model.specs.Command.{Opening, Course}
 use Rattle.pool_model.specs.Pool.{Pool, Pointer}
 use Rattle.pool_model.specs.Group.{Standing, block_or, course_of, fresh_of, lane_by_lane, after_lanes}
@@ -25,20 +24,6 @@ pub same_standing : (a b : Standing) → a.pool ≡ b.pool → a.table ≡ b.tab
     → a.sectors ≡ b.sectors → a.pages ≡ b.pages → a ≡ b
 same_standing a b pool table blocks sectors pages =
     λ i. record { pool = pool i; table = table i; blocks = λ place. blocks place i; sectors = sectors i; pages = pages i }
-
-listed : {X : Type 0} (o : Option X) → cons_option o [] ≡ option_to_list o
-listed None = refl
-listed (Some x) = refl
-
--- one more item, and what it gives
-pub filter_map_more : {X Y : Type 0} (h : X → Option Y) (xs : List X) (i : ℕ) (d : X) (ys more : List Y) (o : Option Y) → i < length xs → ys ≡ filter_map h (take i xs) → o ≡ h (get_or xs i d) → more ≡ ys ++ option_to_list o → more ≡ filter_map h (take (i + 1) xs)
-filter_map_more h xs i d ys more o within so_far here pushed =
-    pushed
-    ∙ ap (λ l. l ++ option_to_list o) so_far
-    ∙ ap (λ p. filter_map h (take i xs) ++ option_to_list p) here
-    ∙ ap (λ l. filter_map h (take i xs) ++ l) (sym (listed (h (get_or xs i d))))
-    ∙ sym (filter_map-append h (take i xs) (get_or xs i d ∷ []))
-    ∙ ap (filter_map h) (sym (take_more xs i d within))
 
 -- courses agree where their openings, pools and commands are the same
 pub same_course : (o o' : Opening) (p p' : Pool) (commands commands' : List Command) (note : GroupNote)

@@ -2,7 +2,8 @@
 use Rattle.pool_model.specs.declared.commands.Command.{Command}
 use Rattle.pool_model.specs.declared.answers.CommandAnswer.{CommandAnswer}
 use Rattle.std.specs.Prelude.{◌^◌, ◌<◌, ⊤, length}
-use Rattle.pool_model.specs.Plain.{Act, write, read, free, task_of, reply_of}
+use Rattle.pool_model.specs.Plain.{Act, write, read, free, reply_of}
+use Rattle.pool_model.specs.Mirrors.{task_of}
 use Rattle.pool_model.specs.Command.{Course, Turn}
 use Rattle.plain_run.specs.declared.course.PlainCourse.TheInside.{Inside}
 

@@ -1,7 +1,8 @@
 ghost use Rattle.std.specs.Prelude.{◌≡◌, [], ◌∷◌, ◌++◌, ℕ, List, ◌^◌, ◌<◌, IfOk, length, if◌then◌else◌};
 ghost use Rattle.std.specs.Option.{option_copied};
 ghost use Rattle.ddt_entry.specs.declared.key.Key.{Key};
-ghost use Rattle.pool_model.specs.Plain.{task_of, act_of, reply_of, content_of, read, to_free};
+ghost use Rattle.pool_model.specs.Plain.{reply_of, read, to_free};
+ghost use Rattle.pool_model.specs.Mirrors.{task_of, act_of, content_of};
 ghost use Rattle.pool_model.specs.Pool.{run_length, held};
 ghost use Rattle.pool_model.specs.Command.{is_fault, last_tracked, known_home, uses_table, naming, replied, released, placed, write_row, after_write, take_fresh, pointer_at, after_free, free_by_mark, after_act, after};
 ghost use Rattle.plain_pool.specs.Pointers.{mark_of};

@@ -1,6 +1,7 @@
 ghost use Rattle.std.specs.Prelude.{◌≡◌, ℕ, List, [], IfOk, All, map, fold, replicate, ◌↔◌, IsTrue};
 ghost use Rattle.pool_model.specs.Pool.{lane_count};
-ghost use Rattle.pool_model.specs.Plain.{task_of, act_of, lane_told, told_of};
+ghost use Rattle.pool_model.specs.Plain.{lane_told, told_of};
+ghost use Rattle.pool_model.specs.Mirrors.{task_of, act_of};
 ghost use Rattle.pool_model.specs.Command.{after};
 ghost use Rattle.pool_model.specs.Group.{opened, course_of, turns_of, lane_by_lane, fresh_of};
 ghost use Rattle.plain_run.specs.Openings.{opening_by};

@@ -1,7 +1,8 @@
 ghost use Rattle.std.specs.Prelude.{◌≡◌, ◌+◌, ◌^◌, ◌<◌, ℕ, List, IfOk, All, map, ◌++◌};
 ghost use Rattle.ddt_entry.specs.declared.key.Key.{Key};
 ghost use Rattle.pool_model.specs.Group.{Rules, opening_of, after_lanes, lanes_in_turn};
-ghost use Rattle.pool_model.specs.Plain.{Told, task_of, act_of, told_of, lanes, prune, quota, set_mode};
+ghost use Rattle.pool_model.specs.Plain.{Told, told_of, lanes, prune, quota, set_mode};
+ghost use Rattle.pool_model.specs.Mirrors.{task_of, act_of};
 ghost use Rattle.pool_model.specs.Run.{first_standing, noted_course, sealed_standing};
 ghost use Rattle.plain_run.specs.Courses.{WritesContent};
 ghost use Rattle.plain_run.specs.Openings.{bytes_at, opening_by};

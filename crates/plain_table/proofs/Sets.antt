@@ -52,7 +52,7 @@ pub record SetsAt {X : Type 0} (key_of : X → Key) (k : Key) (x : X) (F : List 
 front_by : {X : Type 0} (key_of : X → Key) (k : Key) (x : X) (F : List X → List X) → SetsAt key_of k x F → (xs : List X) → F xs ≡ take (position_or_len (from_by key_of k) xs) xs ++ F (drop (position_or_len (from_by key_of k) xs) xs)
 front_by key_of k x F sets = after_front F (from_by key_of k) (λ y ys later. sets.step y ys ∙ by_order-greater (key_cmp k (key_of y)) _ _ _ later)
 
-none_from : {X : Type 0} (p : X → Bool) (xs : List X) → position p xs ≡ None → position_or_len p xs ≡ length xs
+pub none_from : {X : Type 0} (p : X → Bool) (xs : List X) → position p xs ≡ None → position_or_len p xs ≡ length xs
 none_from p xs none = let within = prefix_len-le-length (λ x. not (p x)) xs in grind (arith, common_steps, nat_tests)
 
 -- no key from k on: x goes to the end

@@ -1,6 +1,6 @@
 -- The keys of an image's table have the lengths that the image's parts give them.
 use Rattle.std.proofs.Common.{[]}
-use Rattle.ddt_entry.specs.Records.{IsKeyLength}
+use Rattle.ddt_entry.specs.Spelling.{IsKeyLength}
 use Rattle.uber_ring.specs.declared.seal.Seal.{Seal}
 use Rattle.table_state.specs.Flat.{Flat, table_in, last_changes}
 use Rattle.table_state.specs.Sound.{HasLength, HasKeyLengths}

@@ -5,7 +5,8 @@ use Rattle.std.proofs.lemmas.List.{drop_all}
 use Rattle.std.specs.Prelude.{nat_le}
 use Rattle.std.proofs.lemmas.Bool.{and_parts, leb-true}
 use Rattle.ddt_entry.specs.Changes.{key_in}
-use Rattle.ddt_entry.specs.Records.{is_key_length, is_no_home, malformed, change_in, fields_in, IsKeyLength}
+use Rattle.ddt_entry.specs.Records.{is_key_length, is_no_home, malformed, change_in, fields_in}
+use Rattle.ddt_entry.specs.Spelling.{IsKeyLength}
 use Rattle.ddt_entry.specs.declared.key.Key.{Key}
 use Rattle.ddt_entry.specs.declared.entry.Home.{Home}
 use Rattle.ddt_entry.specs.declared.entry.Entry.{Entry}

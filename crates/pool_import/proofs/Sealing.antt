@@ -7,7 +7,7 @@ use Rattle.uber_ring.specs.Ring.{newest}
 use Rattle.uber_ring.specs.declared.seal.Seal.{Seal}
 use Rattle.pool_model.specs.Pool.{Pool, IsWellFormed}
 use Rattle.pool_model.specs.Table.{TableState, Matches, waiting_in, counted_homes}
-use Rattle.table_state.specs.Flat.{Flat, IsRead, HoldTogether, StandsFor, IsDamaged, IsClear, flat_version, table_in, pool_in}
+use Rattle.table_state.specs.Flat.{Flat, IsRead, HoldTogether, StandsFor, IsDamaged, IsClear, image_version, table_in, pool_in}
 use Rattle.table_state.specs.Pools.{Held, IsHeld}
 use Rattle.table_state.proofs.FlatLaws.{one_flat}
 use Rattle.pool_import.specs.Whole.{IsWhole}
@@ -15,7 +15,7 @@ use Rattle.pool_import.specs.Imports.{IsStanding, IsMade, IsMadeOf, held_of}
 
 -- ---- A pool that was found
 
-module _ (tag : ℕ) (image : Image) (seal : Seal) (flat : Flat) (counts : newest flat_version image ≡ Some seal) (standing : IsStanding tag image seal flat) where
+module _ (tag : ℕ) (image : Image) (seal : Seal) (flat : Flat) (counts : newest image_version image ≡ Some seal) (standing : IsStanding tag image seal flat) where
   abbrev stands : StandsFor tag image (pool_in image seal flat) (table_in seal flat)
   stands = record {
     seal = seal;
@@ -36,7 +36,7 @@ module _ (tag : ℕ) (image : Image) (seal : Seal) (flat : Flat) (counts : newes
   }
 
 -- the pool in memory is of what the image stands for
-pub is_held : (tag : ℕ) (image : Image) (seal : Seal) (held : Held) → newest flat_version image ≡ Some seal → IsMadeOf tag image seal held → (pool : Pool) × (table : TableState) × IsHeld image held pool table
+pub is_held : (tag : ℕ) (image : Image) (seal : Seal) (held : Held) → newest image_version image ≡ Some seal → IsMadeOf tag image seal held → (pool : Pool) × (table : TableState) × IsHeld image held pool table
 is_held tag image seal held counts made_of =
     let flat : Flat = made_of.flat in
     let made : IsMade tag seal flat held = made_of.made in
@@ -59,7 +59,7 @@ same_some : {X : Type 0} (a b : X) → Some a ≡ Some b → a ≡ b
 same_some a b same = ap (λ o. unwrap_or o a) same
 
 -- what an image stands for stands under the seal that counts
-standing_of : (tag : ℕ) (image : Image) (seal : Seal) (pool : Pool) (table : TableState) → newest flat_version image ≡ Some seal → (state : StandsFor tag image pool table) → IsStanding tag image seal state.flat
+standing_of : (tag : ℕ) (image : Image) (seal : Seal) (pool : Pool) (table : TableState) → newest image_version image ≡ Some seal → (state : StandsFor tag image pool table) → IsStanding tag image seal state.flat
 standing_of tag image seal pool table counts state =
     subst (λ (s : Seal). IsStanding tag image s state.flat) (same_some state.seal seal (sym state.counts ∙ counts))
     (record {
@@ -78,7 +78,7 @@ standing_of tag image seal pool table counts state =
     })
 
 -- so where nothing stands under it, the image is damaged
-pub is_damaged : (tag : ℕ) (image : Image) (seal : Seal) → newest flat_version image ≡ Some seal → ((flat : Flat) → IsStanding tag image seal flat → ⊥) → IsDamaged tag image
+pub is_damaged : (tag : ℕ) (image : Image) (seal : Seal) → newest image_version image ≡ Some seal → ((flat : Flat) → IsStanding tag image seal flat → ⊥) → IsDamaged tag image
 is_damaged tag image seal counts none = record {
   sealed = λ no_seal. clash (sym no_seal ∙ counts);
   no_pool = λ pool table state. none state.flat (standing_of tag image seal pool table counts state);
@@ -105,12 +105,12 @@ module _ (tag : ℕ) (seal : Seal) where
       breaks (subst (λ (f : Flat). HoldTogether seal f) same standing.together) image (subst (λ (f : Flat). IsWhole image seal f) same standing.whole)
 
   -- so the image is damaged, where this is the seal that counts
-  pub damaged_by : (told : Option Image) (found : Option Seal) → IfSome told (λ image. found ≡ newest flat_version image) → found ≡ Some seal → IfSome told (λ image. (flat : Flat) → IsStanding tag image seal flat → ⊥) → IfSome told (IsDamaged tag)
+  pub damaged_by : (told : Option Image) (found : Option Seal) → IfSome told (λ image. found ≡ newest image_version image) → found ≡ Some seal → IfSome told (λ image. (flat : Flat) → IsStanding tag image seal flat → ⊥) → IfSome told (IsDamaged tag)
   damaged_by None found counts is none = tt
   damaged_by (Some image) found counts is none = is_damaged tag image seal (sym counts ∙ is) none
 
   -- and else it stands for the pool that was made
-  pub held_by : (told : Option Image) (found : Option Seal) (held : Held) → IfSome told (λ image. found ≡ newest flat_version image) → found ≡ Some seal → IfSome told (λ image. IsMadeOf tag image seal held)
+  pub held_by : (told : Option Image) (found : Option Seal) (held : Held) → IfSome told (λ image. found ≡ newest image_version image) → found ≡ Some seal → IfSome told (λ image. IsMadeOf tag image seal held)
       → IfSome told (λ image. (pool : Pool) × (table : TableState) × IsHeld image held pool table)
   held_by None found held counts is made = tt
   held_by (Some image) found held counts is made = is_held tag image seal held (sym counts ∙ is) made

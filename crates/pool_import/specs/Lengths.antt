@@ -1,6 +1,6 @@
 -- The lengths of the keys that a flat image names.
 use Rattle.std.specs.List.{AllByRecursion}
-use Rattle.ddt_entry.specs.Records.{IsKeyLength}
+use Rattle.ddt_entry.specs.Spelling.{IsKeyLength}
 use Rattle.table_state.specs.Flat.{Flat}
 use Rattle.table_state.specs.Sound.{HasLength}
 

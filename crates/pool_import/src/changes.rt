@@ -1,6 +1,7 @@
 ghost use Rattle.std.specs.Prelude.{◌≡◌, ℕ, true, map, Ok, IfOk, IsErrOf};
 ghost use Rattle.std.specs.List.{AllByRecursion, list_any};
-ghost use Rattle.ddt_entry.specs.Records.{IsKeyLength, change_in};
+ghost use Rattle.ddt_entry.specs.Records.{change_in};
+ghost use Rattle.ddt_entry.specs.Spelling.{IsKeyLength};
 ghost use Rattle.ddt_entry.specs.declared.entry.Change.TheVariants.{Entry as AnEntry};
 ghost use Rattle.page_tree.specs.declared.fault.PageFault.TheVariants.{Damaged, ReadFault};
 ghost use Rattle.table_state.specs.Sound.{HasLength};

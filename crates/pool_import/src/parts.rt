@@ -1,7 +1,7 @@
 ghost use Rattle.std.specs.Prelude.{◌≡◌, ◌≤◌, ℕ, true, List, IfOk, IfSome, IsErrOf};
 ghost use Rattle.std.specs.List.{AllByRecursion};
 ghost use Rattle.disk_model.specs.Faults.{Rose};
-ghost use Rattle.ddt_entry.specs.Records.{IsKeyLength};
+ghost use Rattle.ddt_entry.specs.Spelling.{IsKeyLength};
 ghost use Rattle.ddt_entry.specs.declared.entry.Entry.{Entry as AnEntry};
 ghost use Rattle.ddt_entry.specs.declared.entry.Change.{Change as AChange};
 ghost use Rattle.page_tree.specs.declared.fault.PageFault.TheVariants.{Damaged, ReadFault};

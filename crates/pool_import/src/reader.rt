@@ -1,5 +1,5 @@
 ghost use Rattle.std.specs.Prelude.{◌≡◌, ◌≤◌, ℕ, IfOk, IfSome, IfNone, OnOk, IsErrOf};
-ghost use Rattle.disk_model.specs.Images.{Stays};
+ghost use Rattle.disk_model.specs.DiskLaws.{Stays};
 ghost use Rattle.disk_model.specs.Crashes.{LeavesOnly, NothingPending};
 ghost use Rattle.disk_model.specs.Faults.{Rose};
 ghost use Rattle.pool_model.specs.Pool.{Pool as APool};

@@ -4,7 +4,7 @@ ghost use Rattle.page_tree.specs.declared.fault.PageFault.TheVariants.{Damaged, 
 ghost use Rattle.uber_ring.specs.Ring.{newest};
 ghost use Rattle.pool_model.specs.Pool.{Pool as APool};
 ghost use Rattle.pool_model.specs.Table.{TableState};
-ghost use Rattle.table_state.specs.Flat.{Flat, HasNoPool, IsDamaged, flat_version};
+ghost use Rattle.table_state.specs.Flat.{Flat, HasNoPool, IsDamaged, image_version};
 ghost use Rattle.table_state.specs.Pools.{IsHeld};
 ghost use Rattle.table_state.specs.Sound.{IsSound};
 ghost use Rattle.pool_import.specs.Imports.{IsStanding, IsMadeOf};
@@ -14,11 +14,8 @@ use crate::made::pool_of;
 use disk_model::Disk;
 use page_tree::PageFault;
 use std::alloc::Global;
-use table_state::{Pool, is_formed};
+use table_state::{IMAGE_VERSION, Pool, is_formed};
 use uber_ring::{SLOTS, Seal, find};
-
-/// The version of the image that is read.
-const FLAT_VERSION: u32 = 0;
 
 /// The pool of an image, for a key function with this tag, and `None` where no seal counts. `Damaged` comes
 /// only where the image stands for no pool; the error `Memory` is want of memory.
@@ -38,7 +35,7 @@ pub fn find_pool<D: Disk>(
     ensures count { D.meter_faults meter.old ≤ D.meter_faults meter.new }
     ensures cause { IsErrOf result ReadFault → Rose (D.meter_faults meter.old) (D.meter_faults meter.new) }
 {
-    let Ok(found) = find(disk, meter, FLAT_VERSION) else {
+    let Ok(found) = find(disk, meter, IMAGE_VERSION) else {
         return Err(PageFault::ReadFault);
     };
     let Some(seal) = found else {

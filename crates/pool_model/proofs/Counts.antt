@@ -25,7 +25,8 @@ filter-shorter test (p ∷ ps) =
     elim (test p) as (λ b. length (cond b (p ∷ filter test ps) (filter test ps)) ≤ length
     (p ∷ ps)) [ true ↦ omega arith | false ↦ omega arith ]
 
-length-with_key : (key : Key) (keys : List Key) → length (with_key key keys) ≤ length keys + 1
+-- one key more at the most
+pub length-with_key : (key : Key) (keys : List Key) → length (with_key key keys) ≤ length keys + 1
 length-with_key key [] = omega arith
 length-with_key key (k ∷ ks) =
     let rest = length-with_key key ks in

@@ -1,12 +1,12 @@
 -- The premise on clashes after a group: a content that has no other of its key before the group has none after it.
-use Rattle.std.proofs.Common.{◌≡◌, ℕ, Bool, true, false, cond, List, [], ◌∷◌, Some, inl, ⊎_elim, map, refl, sym, ap, ◌∙◌}
+use Rattle.std.proofs.Common.{◌≡◌, ℕ, Bool, true, false, cond, List, [], ◌∷◌, Some, inl, ⊎_elim, map, sym, ap, ◌∙◌}
 use Rattle.std.specs.Prelude.{take, ◌&&◌, ◌⊎◌}
 use Rattle.std.specs.List.{AllByRecursion, list_any}
 use Rattle.ddt_entry.specs.Keys.{Keying, key_eq}
 use Rattle.ddt_entry.specs.declared.key.Key.{Key}
 use Rattle.ddt_entry.specs.declared.entry.Home.{Home}
 use Rattle.ddt_entry.specs.declared.entry.Entry.{Entry}
-use Rattle.pool_model.specs.Pool.{Pointer, IsSound, is_tracked, loose}
+use Rattle.pool_model.specs.Pool.{Pointer, is_tracked, loose}
 use Rattle.pool_model.specs.Table.{found, waiting_in}
 use Rattle.pool_model.specs.Plain.{Task, GroupItem, lanes, prune, quota, set_mode, Told}
 use Rattle.pool_model.specs.Prune.{loosened, pruned}
@@ -15,7 +15,7 @@ use Rattle.pool_model.specs.Run.{sealed_standing}
 use Rattle.pool_model.specs.Clash.{NoOther, HasNoOther, contents_in, group_contents}
 use Rattle.pool_model.specs.Waiting.{IsIn, AreAmong, WaitedBefore, WaitingStays, WaitsByPointer, WaitingComes}
 use Rattle.pool_model.proofs.Made.{MadeFor, group_makes}
-use Rattle.pool_model.proofs.Lists.{all_each, all_from, all_at, among_all}
+use Rattle.pool_model.proofs.Lists.{all_from, all_at, among_all}
 
 -- where the key is this waiting home's, the content is its block's bytes
 abbrev NoOtherThere : (List ℕ → Key) → (ℕ → List ℕ) → List ℕ → Entry → Type 0
@@ -82,17 +82,6 @@ module _ (keying : Keying) (s : Standing) (told : Told) (pages : List ℕ) where
       all_loosened (NoOtherIn keying.key_of x) (λ p other. other) (pruned s.pool rule moment) s.pool.pointers all
   pointers_kept (quota limit) x new all = all
   pointers_kept (set_mode lane mode) x new all = all
-
-  -- pointers whose keys are those of their contents stay so, and the new ones are
-  pub sound_kept : (item : GroupItem) → AllByRecursion (IsSound keying.key_of) s.pool.pointers
-      → AllByRecursion (IsSound keying.key_of) (sealed_standing (lanes_in_turn keying) s item told pages).pool.pointers
-  sound_kept (lanes moment tasks) all =
-      group_makes (IsSound keying.key_of) keying s moment tasks told
-      (all_each (MadeFor (IsSound keying.key_of) keying.key_of) (λ content task place birth mark. refl) (contents_in tasks)) all
-  sound_kept (prune moment rule) all =
-      all_loosened (IsSound keying.key_of) (λ p sound. sound) (pruned s.pool rule moment) s.pool.pointers all
-  sound_kept (quota limit) all = all
-  sound_kept (set_mode lane mode) all = all
 
   -- a sealed group of any kind keeps the premise
   pub group_kept : (item : GroupItem) (others : List (List ℕ)) → AreAmong (group_contents item) others

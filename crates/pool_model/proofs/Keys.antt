@@ -186,7 +186,7 @@ keys_are_counted_homes pool table is match =
 
 -- ---- One pointer more
 
-any-insert : (test : Pointer → Bool) (p : Pointer) (ps : List Pointer)
+pub any-insert : (test : Pointer → Bool) (p : Pointer) (ps : List Pointer)
     → list_any test (insert_pointer p ps) ≡ (test p || list_any test ps)
 any-insert test p [] = refl
 any-insert test p (q ∷ qs) = by_order (any-insert test p qs) (comes_before p q)

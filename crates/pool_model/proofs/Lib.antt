@@ -38,3 +38,4 @@ pub mod Waiting
 pub mod Matching
 pub mod Named
 pub mod Keys
+pub mod Loops

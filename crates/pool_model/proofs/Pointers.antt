@@ -7,6 +7,7 @@ use Rattle.ddt_entry.specs.Keys.{key_eq}
 use Rattle.ddt_entry.proofs.KeyLaws.{key_eq-symm, key_eq-true}
 use Rattle.pool_model.specs.Pool.{Pointer, Pairwise, IsApart, GoTogether, SharesHome, run_length, is_tracked, is_shared, tracks, is_at, comes_before, insert_pointer}
 use Rattle.pool_model.proofs.Lists.{all_from}
+use Rattle.std.proofs.lemmas.Bool.{and_parts}
 
 -- what each pointer has, an inserted one too, each pointer of the longer list has
 pub all_insert : (P : Pointer → Type 0) (p : Pointer) (ps : List Pointer) → P p → AllByRecursion P ps
@@ -31,7 +32,7 @@ pairs_insert R turned p (q ∷ qs) with_all pairs =
 abbrev Before : Pointer → Pointer → Type 0
 Before p q = comes_before p q ≡ true
 
-order_through : (a b c d e f : ℕ) → (nat_lt a c || ((a == c) && nat_lt b d)) ≡ true → (nat_lt c e || ((c == e) && nat_lt d f)) ≡ true
+pub order_through : (a b c d e f : ℕ) → (nat_lt a c || ((a == c) && nat_lt b d)) ≡ true → (nat_lt c e || ((c == e) && nat_lt d f)) ≡ true
     → (nat_lt a e || ((a == e) && nat_lt b f)) ≡ true
 order_through a b c d e f one other = grind (arith, nat_tests, one, other)
 
@@ -136,14 +137,9 @@ together_turned p q together = record {
       (together.two_blocks (is_shared-symm p q ∙ unshared));
 }
 
-both_true : (a b : Bool) → (a && b) ≡ true → (a ≡ true) × (b ≡ true)
-both_true true true e = (refl, refl)
-both_true true false e = absurd (cc e)
-both_true false b e = absurd (cc e)
-
 -- a pointer that is counted under a key has it
 pub tracks-key : (key : Key) (p : Pointer) → tracks key p ≡ true → (is_tracked p.mark ≡ true) × (p.key ≡ key)
-tracks-key key p counts = let both = both_true (is_tracked p.mark) (key_eq p.key key) counts in (both.0, key_eq-true p.key key both.1)
+tracks-key key p counts = let both = and_parts (is_tracked p.mark) (key_eq p.key key) counts in (both.0, key_eq-true p.key key both.1)
 
 -- one that is counted under a key shares with exactly those that are counted under it
 pub shared_tracks : (key : Key) (p q : Pointer) → is_tracked p.mark ≡ true → p.key ≡ key → is_shared p q ≡ tracks key q

@@ -13,6 +13,7 @@ use Rattle.pool_model.specs.Command.{Opening, Turn, Course, Spot, nowhere, at_ho
 use Rattle.pool_model.specs.ByKey.{is_touched, IsWrite}
 use Rattle.pool_model.proofs.Homes.{left_by, home_now, known_home-now}
 use Rattle.pool_model.proofs.Rows.{SpotFits, FitsFresh, outside, first, row_fits}
+use Rattle.std.proofs.lemmas.Bool.{or_parts}
 
 -- the home that a course has left of a key, and the key's home
 abbrev pub left_of : Opening → Course → Key → Option Home
@@ -55,20 +56,15 @@ pub data Step (opening : Opening) (course later : Course) : Type 0 where
   put_home : (p : Pointer) (home : Home) → IsPut course later p → later.given ≡ course.given
       → IsAtHome (home_of opening course p.key) p home → Step opening course later
 
-either_false : (a b : Bool) → (a || b) ≡ false → (a ≡ false) × (b ≡ false)
-either_false false false e = (refl, refl)
-either_false false true e = absurd (cc e)
-either_false true b e = absurd (cc e)
-
 pub any_last : (test : Key → Bool) (keys : List Key) (key : Key) → list_any test (keys ++ key ∷ []) ≡ false
     → (list_any test keys ≡ false) × (test key ≡ false)
-any_last test [] key none = (refl, (either_false (test key) false none).0)
+any_last test [] key none = (refl, (or_parts (test key) false none).0)
 any_last test (k ∷ keys) key none =
-    let both = either_false (test k) (list_any test (keys ++ key ∷ [])) none in
+    let both = or_parts (test k) (list_any test (keys ++ key ∷ [])) none in
     let rest = any_last test keys key both.1 in
     (ap (λ b. b || list_any test keys) both.0 ∙ rest.0, rest.1)
 
-untracked : (key : Key) (p : Pointer) → is_tracked p.mark ≡ false → tracks key p ≡ false
+pub untracked : (key : Key) (p : Pointer) → is_tracked p.mark ≡ false → tracks key p ≡ false
 untracked key p uncounts = ap (λ b. b && key_eq p.key key) uncounts
 
 other_key : (b e : Bool) → e ≡ false → (b && e) ≡ false

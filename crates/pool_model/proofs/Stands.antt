@@ -1,5 +1,5 @@
 -- Which of some standings stands, where there are more of them, or more is known of what stands.
-use Rattle.std.proofs.Common.{◌≡◌, ◌⊎◌, ℕ, Bool, true, List, [], ◌∷◌, ◌++◌, inl, inr, ⊎_elim, refl}
+use Rattle.std.proofs.Common.{◌≡◌, ◌⊎◌, ℕ, Bool, List, [], ◌∷◌, ◌++◌, inl, inr, ⊎_elim}
 use Rattle.pool_model.specs.Group.{Standing}
 use Rattle.pool_model.specs.Crash.{AnyStands, FirstStands, StandsAt}
 
@@ -43,11 +43,6 @@ module _ (stands : Standing → Type 0) where
       → StandsAt stands failed group (xs ++ s ∷ [])
   at_last failed group xs s number here = at_right failed group xs (s ∷ []) (inl (number, inl here))
 
-  -- the last but one is the one of this group, and where a write failed the last stands
-  pub at_next : (group : ℕ) (xs : List Standing) (a b : Standing) → a.pool.group ≡ group → stands b
-      → StandsAt stands true group (xs ++ a ∷ b ∷ [])
-  at_next group xs a b number next = at_right true group xs (a ∷ b ∷ []) (inl (number, inr (refl, next)))
-
   -- the one of a group that stands is one of them
   pub any_at : (failed : Bool) (group : ℕ) (xs : List Standing) → StandsAt stands failed group xs → AnyStands stands xs
   any_at failed group [] at = absurd at
@@ -62,10 +57,6 @@ module _ (stands : Standing → Type 0) where
 
 -- what follows from standing
 module _ (stands others : Standing → Type 0) (from : (s : Standing) → stands s → others s) where
-  pub any_from : (xs : List Standing) → AnyStands stands xs → AnyStands others xs
-  any_from [] any = absurd any
-  any_from (x ∷ xs) any = ⊎_elim (λ here. inl (from x here)) (λ later. inr (any_from xs later)) any
-
   first_from : (xs : List Standing) → FirstStands stands xs → FirstStands others xs
   first_from [] first = absurd first
   first_from (x ∷ xs) first = from x first

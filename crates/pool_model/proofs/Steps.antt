@@ -35,14 +35,6 @@ module _ (room : Room) (rules : Rules) where
   run-append s [] ys run more = more
   run-append s (x ∷ xs) ys run more = (run.0, run.1, run-append (stands_after x) xs ys run.2 more)
 
-  pub run-front : (s : Standing) (xs ys : List RunStep) → IsRun room rules s (xs ++ ys) → IsRun room rules s xs
-  run-front s [] ys run = tt
-  run-front s (x ∷ xs) ys run = (run.0, run.1, run-front (stands_after x) xs ys run.2)
-
-  pub run-rest : (s : Standing) (xs ys : List RunStep) → IsRun room rules s (xs ++ ys) → IsRun room rules (last_standing s xs) ys
-  run-rest s [] ys run = run
-  run-rest s (x ∷ xs) ys run = run-rest (stands_after x) xs ys run.2
-
   -- what was begun from here, behind what stands here
   abbrev EndsOf : Standing → List RunStep → Type 0
   EndsOf s steps = EndsAt (s ∷ begun steps) (last_standing s steps)

@@ -20,3 +20,4 @@ pub mod WorkedTurns
 pub mod WorkedTables
 pub mod WorkedFacts
 pub mod WorkedLeft
+pub mod Mirrors

@@ -15,10 +15,12 @@
 //!
 //! The types in `src/` are the plain data that all crates speak of: commands, answers, notes of what a
 //! group did, and statistics. Those that hold a list are seen through a mirror without the list's spare
-//! room, in `specs/Plain.antt`.
+//! room: `specs/Plain.antt` has the plain values, and `specs/Mirrors.antt` says how commands, items and
+//! blocks are seen so.
 //!
 //! The `Worked..` files beside them hold examples with their whole answers, which the functions of
 //! `src/worked.rt` promise: a check computes each anew, so that no definition that breaks one passes it.
+//! Nothing calls these functions, and none leaves the crate.
 #![tactic(auto)]
 
 mod answers;
@@ -40,4 +42,3 @@ pub use notes::{
     BadKind, GroupNote, GroupNotes, Kind, LaneNote, LaneNotes, Outcome, PlaceList, Session,
 };
 pub use stats::{BUCKETS, Bucket, Stats};
-pub use worked::{worked_facts, worked_groups, worked_runs, worked_tables};

@@ -6,7 +6,7 @@ ghost use Rattle.pool_model.specs.WorkedLeft.{LaterHit, TakenUp, NewMoment, NoCh
 
 /// Worked runs: for each the items, the notes that a session makes of them, and the bytes of the report.
 /// It does nothing: its clauses are the examples, so that no definition that breaks one passes a check.
-pub fn worked_runs()
+pub(crate) fn worked_runs()
     ensures one_write { OneWrite }
     ensures shared_write { SharedWrite }
     ensures taken_slot { TakenSlot }
@@ -27,7 +27,7 @@ pub fn worked_runs()
 
 /// Worked groups, with the pointers and the table that stand after them, which places are free, which notes
 /// are none of a run, and what a crash may leave of one that was cut.
-pub fn worked_groups()
+pub(crate) fn worked_groups()
     ensures later_hit { LaterHit }
     ensures taken_up { TakenUp }
     ensures new_moment { NewMoment }
@@ -49,7 +49,7 @@ pub fn worked_groups()
 {}
 
 /// Worked syncs of the dedup table: what is logged, when the logs swap, and what is flushed.
-pub fn worked_tables()
+pub(crate) fn worked_tables()
     ensures one_change { OneChange }
     ensures swap_by_age { SwapByAge }
     ensures flushed { Flushed }
@@ -63,7 +63,7 @@ pub fn worked_tables()
 
 /// Worked facts beside the runs: which files are read and refused, digests, room, the premise on digests, and which
 /// pools and tables hold together.
-pub fn worked_facts()
+pub(crate) fn worked_facts()
     ensures refused_files { RefusedFiles }
     ensures edge_file { EdgeFile }
     ensures read_files { ReadFiles }

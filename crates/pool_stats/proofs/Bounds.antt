@@ -1,19 +1,18 @@
 -- Few pointers with short keys have few keys, and counts whose products fit.
-use Rattle.std.proofs.Common.{ℕ, ◌+◌, ◌*◌, ◌^◌, ◌≤◌, Bool, List, [], ◌∷◌, length, map, fold, filter, All, arith, if◌then◌else◌}
+use Rattle.std.proofs.Common.{ℕ, ◌+◌, ◌*◌, ◌^◌, ◌≤◌, Bool, List, [], ◌∷◌, length, map, fold, filter, All, arith}
 use Rattle.std.specs.List.{AllByRecursion}
-use Rattle.std.specs.Ordering.{is_lt, is_eq}
-use Rattle.std.specs.declared.cmp.Ordering.TheVariants.{Less, Equal, Greater}
 use Rattle.std.proofs.Math.Nat.{mul-le-mul}
 use Rattle.std.proofs.lemmas.List.Sums.{length-filter, count_by-le-length}
 use Rattle.std.proofs.lemmas.List.Elements.{All-filter, All-map, All-weaker, All-from_recursion, recursion_from_All}
 use Rattle.ddt_entry.specs.declared.key.Key.{Key}
-use Rattle.ddt_entry.specs.Keys.{key_cmp, key_eq}
+use Rattle.ddt_entry.specs.Keys.{key_eq}
 use Rattle.pool_model.specs.Pool.{with_key}
 use Rattle.pool_stats.specs.Counts.{AreFew, tracked_keys, count_of, sorted_keys, key_counts}
 use Rattle.pool_stats.specs.References.{AreSmall, is_tracked}
 use Rattle.pool_stats.specs.declared.counts.KeyCount.{KeyCount}
 use Rattle.pool_stats.specs.declared.reference.Reference.{Reference}
 use Rattle.pool_stats.proofs.Orders.{All-with_key}
+use Rattle.pool_model.proofs.Counts.{length-with_key}
 
 -- some of few keys are few
 pub AreFew-filter : (p : KeyCount → Bool) (counts : List KeyCount) → AreFew counts → AreFew (filter p counts)
@@ -22,13 +21,6 @@ AreFew-filter p counts few = record {
   short = All-filter p (λ (counted : KeyCount). counted.key.len ≤ 4096) counts few.short;
   bytes = All-filter p (λ (counted : KeyCount). counted.key.len * counted.count ≤ 2 ^ 32) counts few.bytes;
 }
-
-length-with_key : (key : Key) (keys : List Key) → length (with_key key keys) ≤ length keys + 1
-length-with_key key [] = omega arith
-length-with_key key (k ∷ ks) =
-    let rest = length-with_key key ks in
-    elim (key_cmp key k) as (λ o. length (if is_lt o then key ∷ k ∷ ks else (if is_eq o then k ∷ ks else k ∷ with_key key ks)) ≤ length (k ∷ ks) + 1)
-    [ Less ↦ omega arith | Equal ↦ omega arith | Greater ↦ omega arith ]
 
 length-fold : (keys more : List Key) → length (fold (λ sorted key. with_key key sorted) keys more) ≤ length keys + length more
 length-fold keys [] = omega arith

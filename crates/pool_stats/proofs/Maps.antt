@@ -1,6 +1,6 @@
 -- What a map leaves of sums, counts and filters.
 use Rattle.std.proofs.Common.{◌≡◌, ℕ, ◌+◌, Bool, true, false, cond, List, [], ◌∷◌, map, filter, sum_by, count_by, refl, sym, ap, ◌∙◌, arith, ◌||◌}
-use Rattle.std.specs.List.{AllByRecursion, list_any}
+use Rattle.std.specs.List.{list_any}
 use Rattle.std.proofs.lemmas.List.Sums.{sum_by-cons}
 
 pub sum_by-map : {X Y : Type 0} (f : Y → ℕ) (g : X → Y) (xs : List X) → sum_by f (map g xs) ≡ sum_by (λ x. f (g x)) xs
@@ -15,15 +15,6 @@ filter-map p g [] = refl
 filter-map p g (x ∷ xs) =
     elim (p (g x)) as (λ b. cond b (g x ∷ filter p (map g xs)) (filter p (map g xs)) ≡ map g (cond b (x ∷ filter (λ x. p (g x)) xs) (filter (λ x. p (g x)) xs)))
     [ true ↦ ap (λ ys. g x ∷ ys) (filter-map p g xs) | false ↦ filter-map p g xs ]
-
--- functions that agree on a list map it alike
-pub map-same : {X Y : Type 0} (f g : X → Y) (xs : List X) → AllByRecursion (λ x. f x ≡ g x) xs → map f xs ≡ map g xs
-map-same f g [] all = refl
-map-same f g (x ∷ xs) all = ap (λ y. y ∷ map f xs) all.0 ∙ ap (λ ys. g x ∷ ys) (map-same f g xs all.1)
-
-pub AllByRecursion-weaker : {X : Type 0} (P Q : X → Type 0) → ((x : X) → P x → Q x) → (xs : List X) → AllByRecursion P xs → AllByRecursion Q xs
-AllByRecursion-weaker P Q leads [] all = tt
-AllByRecursion-weaker P Q leads (x ∷ xs) all = (leads x all.0, AllByRecursion-weaker P Q leads xs all.1)
 
 -- none of a list is counted where none passes
 pub count_by-none : {X : Type 0} (p : X → Bool) (xs : List X) → list_any p xs ≡ false → count_by p xs ≡ 0

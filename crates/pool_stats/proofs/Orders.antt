@@ -9,7 +9,7 @@ use Rattle.ddt_entry.specs.Keys.{key_cmp, key_eq}
 use Rattle.ddt_entry.proofs.KeyLaws.{key_cmp_total, exact_keys, is_eq-key_cmp, key_eq-true, key_eq-same, key_eq-symm}
 use Rattle.pool_model.specs.Pool.{with_key}
 use Rattle.pool_stats.specs.Counts.{sorted_keys}
-use Rattle.pool_stats.proofs.Maps.{AllByRecursion-weaker}
+use Rattle.pool_model.proofs.Lists.{all_from}
 
 -- whether a key is among keys
 abbrev pub has : List Key → Key → Bool
@@ -48,7 +48,7 @@ rising-nil = tt
 
 -- what comes behind a later key comes behind an earlier one
 behind_before : (a b : Key) (keys : List Key) → key_cmp a b ≡ Less → AreBehind b keys → AreBehind a keys
-behind_before a b keys less behind = AllByRecursion-weaker (λ k. key_cmp b k ≡ Less) (λ k. key_cmp a k ≡ Less) (λ k h. key_cmp_total.trans a b k less h) keys behind
+behind_before a b keys less behind = all_from (λ k. key_cmp b k ≡ Less) (λ k. key_cmp a k ≡ Less) (λ k h. key_cmp_total.trans a b k less h) keys behind
 
 -- a key isn't among those behind it
 pub has-behind : (key : Key) (keys : List Key) → AreBehind key keys → has keys key ≡ false

@@ -11,8 +11,10 @@ use Rattle.ddt_entry.specs.Keys.{key_cmp, key_eq}
 use Rattle.ddt_entry.proofs.KeyLaws.{key_cmp_total, is_eq-key_cmp, key_eq-true, key_eq-same, key_eq-symm}
 use Rattle.pool_stats.specs.Counts.{count_of, sorted_keys, key_counts, runs_from, runs_of}
 use Rattle.pool_stats.specs.declared.counts.KeyCount.{KeyCount}
-use Rattle.pool_stats.proofs.Maps.{map-same, AllByRecursion-weaker, count_by-none}
+use Rattle.pool_stats.proofs.Maps.{count_by-none}
+use Rattle.pool_model.proofs.Loops.{map-same}
 use Rattle.pool_stats.proofs.Orders.{has, AreRising, AreBehind, differ, rising-behind, rising-tail, has-behind, rising-sorted_keys, has-sorted_keys, rising_one}
+use Rattle.pool_model.proofs.Lists.{all_from}
 
 -- a key with how often it stands among these, of which so many of the first have been seen
 abbrev counted : (first : Key) (count : ℕ) → List Key → Key → KeyCount
@@ -62,7 +64,7 @@ runs_from-is key count (k ∷ ks) rising =
           ∙ ap (λ l. counted key count (k ∷ ks) key ∷ l)
           (runs_from-is k 1 ks (rising-tail key (dedup_from key_eq k ks) up)
           ∙ map-same (counted k 1 ks) (counted key count (k ∷ ks)) (dedup_from key_eq k ks)
-          (AllByRecursion-weaker (λ q. key_cmp key q ≡ Less) (λ q. counted k 1 ks q ≡ counted key count (k ∷ ks) q)
+          (all_from (λ q. key_cmp key q ≡ Less) (λ q. counted k 1 ks q ≡ counted key count (k ∷ ks) q)
           (λ q less. ap (λ n. record { key = q; count = n }) (passed k key q count ks (key_eq-symm key q ∙ differ key q less)))
           (dedup_from key_eq k ks) behind))
     ])

@@ -7,7 +7,8 @@ use Rattle.pool_model.specs.declared.commands.Command.{Command}
 use Rattle.pool_model.specs.declared.answers.CommandAnswer.{CommandAnswer}
 use Rattle.pool_model.specs.Group.{tasks_of}
 use Rattle.pool_model.specs.declared.notes.LaneNote.{LaneNote}
-use Rattle.pool_model.specs.Plain.{Task, Reply, task_of, reply_of, lane_told}
+use Rattle.pool_model.specs.Plain.{Task, Reply, reply_of, lane_told}
+use Rattle.pool_model.specs.Mirrors.{task_of}
 use Rattle.pool_model.specs.Text.{command_line, lane_text}
 use Rattle.report.proofs.Written.{Splits}
 

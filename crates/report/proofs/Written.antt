@@ -1,9 +1,9 @@
 -- Texts that are written one after another.
-use Rattle.std.proofs.Common.{◌≡◌, ℕ, ◌+◌, ◌≤◌, ◌<◌, List, [], ◌++◌, Option, Result, Ok, Err, length, take, drop, slice_index_or, refl, sym, ap, ◌∙◌, subst, arith, append_assoc, append-nil}
+use Rattle.std.proofs.Common.{◌≡◌, ℕ, ◌+◌, ◌≤◌, ◌<◌, List, [], ◌++◌, Option, Result, Ok, Err, length, take, drop, slice_index_or, sym, ap, ◌∙◌, subst, arith, append_assoc, append-nil}
 use Rattle.std.proofs.Math.Seq.{take-append-add}
 use Rattle.std.proofs.lemmas.List.{length-append, take-append-le, drop_more}
 use Rattle.std.specs.List.{flat_map}
-use Rattle.std.proofs.KnownBytes.{Appends-nil, Appends-trans}
+use Rattle.std.proofs.KnownBytes.{Appends-trans}
 use Rattle.std.specs.Io.KnownBytes.{Appends}
 use Rattle.io_model.specs.Outside.{TookFront, Rose}
 use Rattle.std.specs.Prelude.{IsErr}
@@ -25,10 +25,6 @@ TookFront-behind old mid new front rest written (n, within, taken) = (
 -- a fault that came later came since before
 Rose-since : (before mid now : ℕ) → before ≤ mid → Rose mid now → Rose before now
 Rose-since before mid now later rose = omega (arith, later, rose)
-
--- nothing is written by a call that isn't made
-pub Wrote-nothing : {E : Type 0} (old : Option (List ℕ)) (before : ℕ) → Wrote {T = Unit {0}} {E = E} old old before before [] (Ok tt)
-Wrote-nothing old before = record { all = Appends-nil old; front = tt; cause = record { later = omega arith; rose = tt } }
 
 -- a failure that is handed on
 pub Wrote-failed : {S T E F : Type 0} {old new : Option (List ℕ)} {before now : ℕ} {text : List ℕ} {e : E} {result : Result T F}
@@ -69,10 +65,6 @@ pub record Remains (old now : Option (List ℕ)) (before count : ℕ) (left whol
   pub split : whole ≡ done ++ left
   pub written : Appends old now done
   pub later : before ≤ count
-
--- all of it is left at first
-pub Remains-whole : (old : Option (List ℕ)) (before : ℕ) (whole : List ℕ) → Remains old old before before whole whole
-Remains-whole old before whole = record { done = []; split = refl; written = Appends-nil old; later = omega arith }
 
 -- the next part was written
 pub Remains-more : {S E : Type 0} {old mid new : Option (List ℕ)} {before between now : ℕ} {left part rest whole : List ℕ} {x : S}

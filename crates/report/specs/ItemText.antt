@@ -1,10 +1,8 @@
 -- The text of an item that ended, by its note and by the numbers of the pool that stands after it.
-use Rattle.std.specs.Prelude.{◌≡◌, ℕ, List, codes, Option, Some, None}
+use Rattle.std.specs.Prelude.{ℕ, List, codes, Option, Some, None}
 use Rattle.pool_model.specs.declared.stats.Stats.{Stats}
-use Rattle.pool_model.specs.Pool.{Pool}
-use Rattle.pool_model.specs.Stats.{stats_of}
 use Rattle.pool_model.specs.Plain.{GroupItem, Part, create, of_group, stat, «import», Told}
-use Rattle.pool_model.specs.Text.{number_line, stat_text, kind_word, noted_text, item_text}
+use Rattle.pool_model.specs.Text.{number_line, stat_text, kind_word, noted_text}
 
 -- the group that an item is
 abbrev pub group_in : Part → Option GroupItem
@@ -23,8 +21,3 @@ text_of (of_group item) told stats group limit = noted_text item told
 text_of create told stats group limit = number_line (codes "create") 1
 text_of stat told stats group limit = stat_text group limit stats
 text_of «import» told stats group limit = number_line (codes "import") group
-
--- with a pool's own numbers it is the text that the report has of the item
-abbrev pub TextIsOfPool : Type 0
-TextIsOfPool =
-    (part : Part) (told : Option Told) (pool : Pool) → text_of part told (stats_of pool) pool.group pool.quota ≡ item_text part told pool

@@ -1,7 +1,8 @@
 ghost use Rattle.std.specs.Prelude.{◌≡◌, ◌≤◌, ◌<◌, [], ◌∷◌, ◌++◌, length, map, nat_le, IsTrue};
 ghost use Rattle.std.specs.List.{join_with_byte};
 ghost use Rattle.hex.specs.Hex.{encode_lower};
-ghost use Rattle.pool_model.specs.Plain.{act_of, reply_of, task_of};
+ghost use Rattle.pool_model.specs.Plain.{reply_of};
+ghost use Rattle.pool_model.specs.Mirrors.{act_of, task_of};
 ghost use Rattle.pool_model.specs.Text.{verb_word, write_words, free_words, reply_words, command_line};
 ghost use Rattle.report.specs.Answered.{answered_words, is_short_answer};
 ghost use Rattle.report.specs.Words.{FitsLine, word_text};

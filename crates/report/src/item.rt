@@ -1,9 +1,10 @@
 ghost use Rattle.std.specs.Prelude.{◌≡◌, ◌≤◌, length, IfSome};
 ghost use Rattle.std.specs.Option.{option_map, option_copied};
 ghost use Rattle.pool_model.specs.declared.notes.Outcome.TheVariants as outcomes;
-ghost use Rattle.pool_model.specs.Plain.{part_of, told_of};
+ghost use Rattle.pool_model.specs.Plain.{told_of};
+ghost use Rattle.pool_model.specs.Mirrors.{part_of};
 ghost use Rattle.pool_model.specs.Text.{group_text, noted_text};
-ghost use Rattle.report.specs.ItemText.{group_in, item_word, text_of, TextIsOfPool};
+ghost use Rattle.report.specs.ItemText.{group_in, item_word, text_of};
 ghost use Rattle.report.specs.Writes.{Wrote};
 
 use crate::lanes::write_lanes;
@@ -107,9 +108,3 @@ pub fn write_item<W: Sink>(
         }
     }
 }
-
-/// Where the numbers handed to `write_item` are a pool's own, what it writes is the text that the
-/// report's definition has of the item and that pool.
-pub fn text_is_of_pool()
-    ensures { TextIsOfPool }
-{}

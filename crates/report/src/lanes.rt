@@ -1,6 +1,7 @@
 ghost use Rattle.std.specs.Prelude.{map};
 ghost use Rattle.std.specs.List.{flat_map};
-ghost use Rattle.pool_model.specs.Plain.{task_of, lane_told};
+ghost use Rattle.pool_model.specs.Plain.{lane_told};
+ghost use Rattle.pool_model.specs.Mirrors.{task_of};
 ghost use Rattle.pool_model.specs.Text.{lane_text};
 ghost use Rattle.report.specs.Writes.{Wrote};
 

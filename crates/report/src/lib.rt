@@ -6,6 +6,9 @@
 //! each in one piece, but for a line that has a block's bytes. Each function that writes promises the
 //! same: the whole text was written, or after a failed write some front of it.
 //!
+//! Where the numbers handed to `write_item` are a pool's own, the text is that of the item and the pool: the law
+//! `ItemLemmas.{text_of-pool}` of `proofs/`.
+//!
 //! A line is a short list of words, which are put together on the stack: nothing here takes memory, so a
 //! group that was sealed is reported whatever memory there is. The session calls this crate after each
 //! item, and nothing else prints a report.
@@ -17,5 +20,5 @@ mod lanes;
 mod stat;
 mod words;
 
-pub use item::{text_is_of_pool, write_item};
+pub use item::write_item;
 pub use stat::NO_STATS;

@@ -1,7 +1,8 @@
 -- The pool that is imported again over told contents is the one that stood in memory.
 use Rattle.std.proofs.Common.{◌≡◌, ◌∙◌, ℕ, true, Option, Some, None, Err, refl, sym, subst}
 use Rattle.std.specs.Prelude.{IfSome, IsErrOf}
-use Rattle.disk_model.specs.Images.{Image, Stays}
+use Rattle.disk_model.specs.Images.{Image}
+use Rattle.disk_model.specs.DiskLaws.{Stays}
 use Rattle.disk_model.specs.Crashes.{DiskState, NothingPending}
 use Rattle.pool_model.specs.Pool.{Pool}
 use Rattle.pool_model.specs.Table.{TableState}

@@ -15,7 +15,8 @@ use Rattle.pool_model.specs.declared.notes.Outcome.TheVariants.{Sealed, NoSpace,
 use Rattle.pool_model.specs.declared.stats.Stats.{Stats}
 use Rattle.pool_model.specs.Pool.{Pool}
 use Rattle.pool_model.specs.Stats.{stats_of}
-use Rattle.pool_model.specs.Plain.{Task, GroupItem, lanes, Part, create, of_group, stat, «import», part_of, Told}
+use Rattle.pool_model.specs.Plain.{Task, GroupItem, lanes, Part, create, of_group, stat, «import», Told}
+use Rattle.pool_model.specs.Mirrors.{part_of}
 use Rattle.pool_model.specs.Group.{Standing, Rules, lanes_in_turn}
 use Rattle.pool_model.specs.Run.{DidGroup, HasEnded, HasFlatRoom, RunStep, stands_after, standing_by}
 use Rattle.pool_model.specs.Crash.{AnyStands, StandsAt, begun_by, is_begun_by}

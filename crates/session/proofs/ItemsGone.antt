@@ -4,11 +4,13 @@ use Rattle.std.proofs.lemmas.List.{take_more, map-append}
 use Rattle.std.proofs.lemmas.Bool.Decides.{nat_tests}
 use Rattle.std.proofs.KnownBytes.{Appends-nil}
 use Rattle.disk_model.specs.Images.{Image}
-use Rattle.disk_model.specs.Crashes.{DiskState, IsDisk}
+use Rattle.disk_model.specs.Crashes.{DiskState}
+use Rattle.disk_model.specs.DiskLaws.{IsDisk}
 use Rattle.disk_model.proofs.Moments.{started}
 use Rattle.pool_model.specs.declared.commands.Item.{Item}
 use Rattle.pool_model.specs.declared.notes.Session.{Session}
-use Rattle.pool_model.specs.Plain.{Part, Told, part_of, told_of}
+use Rattle.pool_model.specs.Plain.{Part, Told, told_of}
+use Rattle.pool_model.specs.Mirrors.{part_of}
 use Rattle.pool_model.specs.Group.{Standing, Rules}
 use Rattle.pool_model.specs.Run.{RunStep, last_standing, parts_of, notes_of}
 use Rattle.pool_model.specs.Crash.{AnyStands}

@@ -1,7 +1,9 @@
 -- What a crash leaves while a new pool is made, and what stands then.
 use Rattle.std.proofs.Common.{◌≡◌, ◌≤◌, ℕ, List, [], ◌∷◌, length, Option, Some, Result, Ok, Err, IsErr, refl, sym, subst, ap, ◌∙◌, inl, inr, ⊎_elim, arith}
-use Rattle.disk_model.specs.Images.{Image, IsImage, TellsImage, Stays}
-use Rattle.disk_model.specs.Crashes.{DiskState, IsDisk, LeavesOnly, NothingPending}
+use Rattle.disk_model.specs.Images.{Image}
+use Rattle.disk_model.specs.DiskLaws.{IsImage, TellsImage, Stays}
+use Rattle.disk_model.specs.Crashes.{DiskState, LeavesOnly, NothingPending}
+use Rattle.disk_model.specs.DiskLaws.{IsDisk}
 use Rattle.disk_model.proofs.Moments.{started, and_then, weakened, at_end}
 use Rattle.pool_model.specs.declared.faults.SyncFault.{SyncFault}
 use Rattle.pool_model.specs.declared.faults.SyncFault.TheVariants as syncs
@@ -9,7 +11,8 @@ use Rattle.pool_model.specs.Group.{Standing}
 use Rattle.pool_model.specs.Run.{first_standing}
 use Rattle.table_state.specs.SealForms.{fewest_sectors, most_sectors}
 use Rattle.table_state.specs.Flat.{HasNoPool}
-use Rattle.table_state.specs.Holding.{Holds, StandsOver}
+use Rattle.table_state.specs.Holding.{Holds}
+use Rattle.table_state.specs.Over.{StandsOver}
 use Rattle.table_state.specs.Pools.{Held, new_held}
 use Rattle.txg_sync.specs.Creating.{Creates, HasNoSeal, NoneOrNew}
 use Rattle.txg_sync.specs.Stages.{LeavesBeginning, LeavesUnbegun}

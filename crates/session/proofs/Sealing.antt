@@ -5,11 +5,14 @@ use Rattle.std.specs.List.{count_by}
 use Rattle.std.proofs.lemmas.Bool.{eq-eqb}
 use Rattle.std.proofs.lemmas.List.{length-map}
 use Rattle.std.proofs.Math.Nat.{mod-lt}
-use Rattle.disk_model.specs.Images.{Image, Stays}
-use Rattle.disk_model.specs.Crashes.{DiskState, IsDisk, LeavesOnly, NothingPending}
+use Rattle.disk_model.specs.Images.{Image}
+use Rattle.disk_model.specs.DiskLaws.{Stays}
+use Rattle.disk_model.specs.Crashes.{DiskState, LeavesOnly, NothingPending}
+use Rattle.disk_model.specs.DiskLaws.{IsDisk}
 use Rattle.disk_model.proofs.Moments.{weakened, at_end}
 use Rattle.ddt_entry.specs.Keys.{Keying}
-use Rattle.uber_ring.specs.Ring.{gate_sector, body_sector, slot_of}
+use Rattle.uber_ring.specs.Ring.{gate_sector, body_sector}
+use Rattle.uber_ring.specs.RingWrites.{slot_of}
 use Rattle.pool_model.specs.declared.faults.SyncFault.{SyncFault}
 use Rattle.pool_model.specs.declared.faults.SyncFault.TheVariants as syncs
 use Rattle.pool_model.specs.declared.notes.Outcome.{Outcome}
@@ -23,7 +26,8 @@ use Rattle.pool_model.specs.Run.{HasFlatRoom, given_by, sealed_standing}
 use Rattle.pool_model.specs.Crash.{AnyStands, StandsAt, has_its_lanes, begun_by}
 use Rattle.pool_model.proofs.Kept.{clash_kept}
 use Rattle.table_state.specs.Pools.{Held, IsHeld}
-use Rattle.table_state.specs.Holding.{Holds, StandsOver, WaitingStand}
+use Rattle.table_state.specs.Holding.{Holds, WaitingStand}
+use Rattle.table_state.specs.Over.{StandsOver}
 use Rattle.table_state.specs.Closing.{PlainClosed, CanSyncOver, pages_of, records_after, standing_with, table_after}
 use Rattle.table_state.proofs.Held.{standing_over, stands_as_held}
 use Rattle.table_state.proofs.RoomLaws.{sealed_pages}

@@ -4,7 +4,8 @@ use Rattle.std.proofs.lemmas.Bool.Decides.{nat_tests}
 use Rattle.std.proofs.KnownBytes.{Keeps-refl}
 use Rattle.io_model.specs.Outside.{Rose}
 use Rattle.disk_model.specs.Images.{Image}
-use Rattle.disk_model.specs.Crashes.{DiskState, IsDisk, LeavesOnly}
+use Rattle.disk_model.specs.Crashes.{DiskState, LeavesOnly}
+use Rattle.disk_model.specs.DiskLaws.{IsDisk}
 use Rattle.disk_model.proofs.Moments.{started, weakened, and_then}
 use Rattle.pool_model.specs.declared.notes.Session.{Session}
 use Rattle.pool_model.specs.Plain.{Part}

@@ -2,8 +2,10 @@
 use Rattle.std.proofs.Common.{◌≡◌, ◌∙◌, ◌+◌, ℕ, Option, Some, None, Result, Ok, Err, List, [], ◌∷◌, length, refl, sym, ap, subst, inl}
 use Rattle.std.specs.Prelude.{not, unwrap_or}
 use Rattle.std.specs.List.{count_by}
-use Rattle.disk_model.specs.Images.{Image, Stays}
-use Rattle.disk_model.specs.Crashes.{DiskState, LeavesOnly, SameOutcomes}
+use Rattle.disk_model.specs.Images.{Image}
+use Rattle.disk_model.specs.DiskLaws.{Stays}
+use Rattle.disk_model.specs.Crashes.{DiskState, LeavesOnly}
+use Rattle.disk_model.specs.DiskLaws.{SameOutcomes}
 use Rattle.disk_model.proofs.Moments.{and_then, weakened}
 use Rattle.ddt_entry.specs.Keys.{Keying}
 use Rattle.pool_model.specs.declared.faults.GroupFault.{GroupFault}
@@ -17,7 +19,8 @@ use Rattle.pool_model.specs.Group.{Standing, lanes_in_turn}
 use Rattle.pool_model.specs.Run.{sealed_standing}
 use Rattle.pool_model.specs.Crash.{AnyStands, begun_by}
 use Rattle.table_state.specs.Closing.{PlainClosed}
-use Rattle.table_state.specs.Holding.{Holds, StandsOver}
+use Rattle.table_state.specs.Holding.{Holds}
+use Rattle.table_state.specs.Over.{StandsOver}
 use Rattle.table_state.specs.Pools.{Held}
 use Rattle.lane_run.specs.Groups.{HasNoClash, IsRunFrom}
 use Rattle.session.specs.StageEntries.{IsOver}

@@ -13,7 +13,7 @@ use Rattle.pool_model.specs.Crash.{begun}
 use Rattle.pool_model.specs.File.{file_of}
 use Rattle.uber_ring.specs.Ring.{newest}
 use Rattle.uber_ring.specs.declared.seal.Seal.{Seal}
-use Rattle.table_state.specs.Flat.{HasNoPool, IsDamaged, flat_version}
+use Rattle.table_state.specs.Flat.{HasNoPool, IsDamaged, image_version}
 use Rattle.table_state.specs.Holding.{Holds}
 use Rattle.session.specs.Devices.{Devices, Input}
 use Rattle.session.specs.Origins.{origin, may_begin, may_not_begin}
@@ -130,7 +130,7 @@ faults_in session = sum_by (λ told. sum_by (λ lane. lane.faults) told.lanes) (
 
 -- a seal of this group counts
 abbrev pub HasNewest : (group : ℕ) → Image → Type 0
-HasNewest group image = (seal : Seal) × (newest flat_version image ≡ Some seal) × (seal.group ≡ group)
+HasNewest group image = (seal : Seal) × (newest image_version image ≡ Some seal) × (seal.group ≡ group)
 
 -- why a session ended so: by the counts of the disk and of the output, and by what the disk tells; so many faults are noted
 abbrev pub HasCauseFor : Status → Word → (tag : ℕ) → Devices → (faults : ℕ) → Type 0

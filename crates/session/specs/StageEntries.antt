@@ -6,7 +6,7 @@ use Rattle.pool_model.specs.Pool.{Pool}
 use Rattle.pool_model.specs.Table.{TableState}
 use Rattle.pool_model.specs.Group.{Standing}
 use Rattle.table_state.specs.Pools.{Held, IsHeld}
-use Rattle.table_state.specs.Holding.{StandsOver}
+use Rattle.table_state.specs.Over.{StandsOver}
 use Rattle.table_state.specs.Sound.{IsSound}
 
 -- told contents are those of some pool, which the pool in memory stands for

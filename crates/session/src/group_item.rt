@@ -8,7 +8,8 @@ ghost use Rattle.pool_model.specs.declared.notes.Outcome.TheVariants as outcomes
 ghost use Rattle.ddt_entry.specs.Keys.{Keying};
 ghost use Rattle.pool_model.specs.Group.{Standing, lanes_in_turn};
 ghost use Rattle.pool_model.specs.Text.{noted_text};
-ghost use Rattle.pool_model.specs.Plain.{GroupItem, Task, Told, lanes, of_group, part_of, task_of, told_of};
+ghost use Rattle.pool_model.specs.Plain.{GroupItem, Task, Told, lanes, of_group, told_of};
+ghost use Rattle.pool_model.specs.Mirrors.{part_of, task_of};
 ghost use Rattle.report.specs.Writes.{Wrote};
 ghost use Rattle.table_state.specs.Sound.{IsSound};
 ghost use Rattle.table_state.specs.SealForms.{last_group};

@@ -3,7 +3,7 @@
 ghost use Rattle.std.specs.Prelude.{◌≡◌, ◌≤◌, ◌↔◌, ℕ, Some, None, map, string_bytes};
 ghost use Rattle.disk_model.specs.Images.{Image};
 ghost use Rattle.pool_model.specs.Pool.{Pool as PoolModel};
-ghost use Rattle.pool_model.specs.Plain.{part_of};
+ghost use Rattle.pool_model.specs.Mirrors.{part_of};
 ghost use Rattle.pool_model.specs.Table.{TableState};
 ghost use Rattle.pool_model.specs.Stats.{stats_of};
 ghost use Rattle.pool_model.specs.Text.{stat_text};

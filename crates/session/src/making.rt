@@ -2,10 +2,11 @@
 
 ghost use Rattle.std.specs.Prelude.{◌≡◌, ◌≤◌, ℕ, Some, IfOk, IfSome, OnOk, IsErrOf};
 ghost use Rattle.std.specs.Option.{option_map};
-ghost use Rattle.disk_model.specs.Images.{Image, Stays};
+ghost use Rattle.disk_model.specs.Images.{Image};
+ghost use Rattle.disk_model.specs.DiskLaws.{Stays};
 ghost use Rattle.disk_model.specs.Crashes.{LeavesOnly, NothingPending};
 ghost use Rattle.uber_ring.specs.Ring.{newest};
-ghost use Rattle.table_state.specs.Flat.{flat_version};
+ghost use Rattle.table_state.specs.Flat.{image_version};
 ghost use Rattle.txg_sync.specs.Creating.{HasNoSeal};
 ghost use Rattle.session.specs.Entries.{IsLawfulSize};
 ghost use Rattle.session.specs.StageEntries.{IsOnDisk};
@@ -15,12 +16,9 @@ ghost use Rattle.session.specs.declared.status.Status.{Status};
 use crate::status::{Status, told};
 use disk_model::{Disk, crash_laws};
 use std::alloc::Global;
-use table_state::{MOST_SECTORS, Pool};
+use table_state::{IMAGE_VERSION, MOST_SECTORS, Pool};
 use txg_sync::create;
 use uber_ring::{FEWEST_SECTORS, Seal, find};
-
-/// The version of the image that is read.
-const FLAT_VERSION: u32 = 0;
 
 /// Makes an empty pool of group 1, for a key function with this tag, which is sealed then. A size that isn't lawful
 /// is told before any device is called.
@@ -56,7 +54,7 @@ fn newest_group<D: Disk>(disk: &mut D) -> Result<Option<u64>, Status>
     requires lawful { IsLawfulSize (D.state disk.old).sectors }
     ensures sectors { (D.state disk.new).sectors ≡ (D.state disk.old).sectors }
     ensures stays { Stays (D.state disk.old).seen (D.state disk.new).seen }
-    ensures found { IfOk result (λ found. IfSome (D.state disk.old).seen (λ image. found ≡ option_map (λ seal. seal.group) (newest flat_version image))) }
+    ensures found { IfOk result (λ found. IfSome (D.state disk.old).seen (λ image. found ≡ option_map (λ seal. seal.group) (newest image_version image))) }
     ensures durable { OnOk result (NothingPending (D.state disk.old).seen (D.state disk.new).may_leave) }
     ensures no_more { (c : Image) → (D.state disk.new).may_leave c → (D.state disk.old).may_leave c }
     ensures any_moment { LeavesOnly (D.state disk.old) (D.state disk.new) (D.state disk.old).may_leave }
@@ -73,7 +71,7 @@ fn newest_group<D: Disk>(disk: &mut D) -> Result<Option<u64>, Status>
         disk.retire(meter);
         return Err(Status::WriteFault);
     };
-    let answer = find(disk, &mut meter, FLAT_VERSION);
+    let answer = find(disk, &mut meter, IMAGE_VERSION);
     disk.retire(meter);
     let Ok(found) = answer else {
         return Err(Status::ReadFault);

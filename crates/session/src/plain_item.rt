@@ -6,7 +6,7 @@ ghost use Rattle.disk_model.specs.Crashes.{LeavesOnly};
 ghost use Rattle.io_model.specs.Outside.{Rose};
 ghost use Rattle.pool_model.specs.declared.commands.Item.TheVariants as items;
 ghost use Rattle.pool_model.specs.Group.{Standing, lanes_in_turn};
-ghost use Rattle.pool_model.specs.Plain.{part_of};
+ghost use Rattle.pool_model.specs.Mirrors.{part_of};
 ghost use Rattle.session.specs.Devices.{between};
 ghost use Rattle.session.specs.Origins.{origin, may_begin};
 ghost use Rattle.session.specs.StageEntries.{IsOnDisk, IsOver};

@@ -1,11 +1,10 @@
-ghost use Rattle.std.specs.Prelude.{◌≡◌, ◌≤◌, ◌+◌, ◌-◌, ◌^◌, ◌<◌, ◌++◌, ◌∷◌, [], ℕ, true, List, min, map, take, length, Some, None, OnOk, OnErr, IsErrOf, IfOk};
+ghost use Rattle.std.specs.Prelude.{◌≡◌, ◌≤◌, ◌+◌, ◌-◌, ◌^◌, ◌<◌, ◌++◌, ◌∷◌, [], ℕ, true, List, min, map, take, length, Some, None, OnOk, OnErr, IsErrOf, IfOk, ◌↔◌, string_bytes};
 ghost use Rattle.std.specs.List.{AllByRecursion};
-ghost use Rattle.std.specs.Prelude.{◌↔◌, string_bytes};
 ghost use Rattle.cmd_file.specs.Items.{IsItem, AreItems};
 ghost use Rattle.io_model.specs.Outside.{Rose};
 ghost use Rattle.disk_model.specs.Images.{Image};
 ghost use Rattle.pool_model.specs.Group.{lanes_in_turn};
-ghost use Rattle.pool_model.specs.Plain.{part_of};
+ghost use Rattle.pool_model.specs.Mirrors.{part_of};
 ghost use Rattle.session.specs.Devices.{between, reading};
 ghost use Rattle.session.specs.Entries.{IsLawfulSize, last_start};
 ghost use Rattle.session.specs.Origins.{origin, of_size, may_begin, is_before_devices};

@@ -5,7 +5,7 @@ use Rattle.std.proofs.Math.Seq.{take-append_seam}
 use Rattle.std.proofs.lemmas.List.{length-set}
 use Rattle.disk_model.specs.Images.{Image, sector_at}
 use Rattle.disk_model.proofs.Sectors.{sector_at-set, sector_at-set_other}
-use Rattle.pool_model.specs.Plain.{Stored}
+use Rattle.pool_model.specs.Mirrors.{Stored}
 use Rattle.pool_model.specs.Pool.{Pairwise}
 use Rattle.table_state.specs.Pools.{block_sector, put_block, with_blocks}
 use Rattle.pool_model.proofs.Lists.{all_from}

@@ -1,5 +1,5 @@
 -- An image whose newest seal is that of a new pool stands for the empty pool.
-use Rattle.std.proofs.Common.{◌≡◌, ℕ, suc, ◌≤◌, ◌-◌, Bool, true, false, ◌||◌, List, [], ◌∷◌, Some, length, map, refl, ap, ◌∙◌, arith, eq-eqb}
+use Rattle.std.proofs.Common.{◌≡◌, ℕ, suc, ◌≤◌, ◌-◌, Bool, true, false, ◌||◌, [], Some, length, refl, ap, ◌∙◌, arith, eq-eqb}
 use Rattle.std.specs.Prelude.{nat_le, nat_lt}
 use Rattle.std.specs.List.{range_with_len}
 use Rattle.std.proofs.lemmas.Bool.{and_from, lt-ltb}
@@ -14,11 +14,13 @@ use Rattle.pool_model.specs.Pool.{empty_pool}
 use Rattle.pool_model.specs.Run.{first_standing}
 use Rattle.pool_model.specs.Space.{is_used, used_sectors}
 use Rattle.pool_model.specs.Table.{IsTable, empty_table}
-use Rattle.table_state.specs.SealForms.{new_seal, is_formed, fewest_sectors, most_sectors, has_size}
-use Rattle.table_state.specs.Flat.{Flat, StandsFor, Reads, flat_version}
+use Rattle.table_state.specs.SealForms.{is_formed, fewest_sectors, most_sectors, has_size}
+use Rattle.table_state.specs.Spelling.{new_seal}
+use Rattle.table_state.specs.Flat.{Flat, StandsFor, Reads, image_version}
 use Rattle.table_state.specs.Pools.{IsHeld, new_held}
-use Rattle.table_state.specs.Holding.{StandsOver}
+use Rattle.table_state.specs.Over.{StandsOver}
 use Rattle.table_state.specs.Sound.{IsSound}
+use Rattle.table_state.proofs.UsedLaws.{map_same}
 
 nothing : Flat
 nothing = record { slots = []; unique = []; duplicate = []; active = []; flushing = []; named = [] }
@@ -40,7 +42,7 @@ new_formed tag sectors size enough few there =
 empty_sorted : IsTable empty_table
 empty_sorted = record { zap_rising = tt; zap_counted = tt; flush_rising = tt; active_rising = tt; logs_apart = tt; past = tt }
 
-pub stands_for_empty : (tag sectors : ℕ) (image : Image) → fewest_sectors ≤ sectors → sectors ≤ most_sectors → sectors ≤ length image → newest flat_version image ≡ Some (new_seal tag sectors) → StandsFor tag image empty_pool empty_table
+pub stands_for_empty : (tag sectors : ℕ) (image : Image) → fewest_sectors ≤ sectors → sectors ≤ most_sectors → sectors ≤ length image → newest image_version image ≡ Some (new_seal tag sectors) → StandsFor tag image empty_pool empty_table
 unfolding nothing
 stands_for_empty tag sectors image enough few there seals =
     record {
@@ -101,20 +103,16 @@ stands_for_empty tag sectors image enough few there seals =
     none : Reads image [] (Some null_pointer) [] []
     none = reads_nothing image (length image - 1) some
 
-map_alike : (f g : ℕ → Bool) (xs : List ℕ) → ((x : ℕ) → f x ≡ g x) → map f xs ≡ map g xs
-map_alike f g [] same = refl
-map_alike f g (x ∷ xs) same = ap (λ b. b ∷ map f xs) (same x) ∙ ap (λ (bs : List Bool). g x ∷ bs) (map_alike f g xs same)
-
 -- the sectors that an empty pool uses are the ring's
 pub used_by_none : (sectors : ℕ) → ring_used sectors ≡ used_sectors sectors [] empty_pool empty_table
-used_by_none sectors = map_alike (λ sector. nat_lt sector 32) (is_used [] empty_pool empty_table) (range_with_len 0 sectors) (λ s. ring_alone (nat_lt s 32))
+used_by_none sectors = map_same (λ sector. nat_lt sector 32) (is_used [] empty_pool empty_table) (range_with_len 0 sectors) (λ s. ring_alone (nat_lt s 32))
   where
     ring_alone : (b : Bool) → b ≡ (b || false || false || false)
     ring_alone true = refl
     ring_alone false = refl
 
 -- it stands for the empty pool over an image in which the first seal counts
-pub new_is_held : (tag sectors : ℕ) (image : Image) → fewest_sectors ≤ sectors → sectors ≤ most_sectors → sectors ≤ length image → newest flat_version image ≡ Some (new_seal tag sectors) → IsHeld image (new_held tag sectors) empty_pool empty_table
+pub new_is_held : (tag sectors : ℕ) (image : Image) → fewest_sectors ≤ sectors → sectors ≤ most_sectors → sectors ≤ length image → newest image_version image ≡ Some (new_seal tag sectors) → IsHeld image (new_held tag sectors) empty_pool empty_table
 unfolding stands_for_empty nothing
 new_is_held tag sectors image enough few there seals = record {
   stands = stands_for_empty tag sectors image enough few there seals;
@@ -147,7 +145,7 @@ new_is_sound tag sectors enough few = record {
 
 -- and is what stands over the image of a new pool
 pub new_stands_over : (tag sectors : ℕ) (image : Image) → fewest_sectors ≤ sectors → sectors ≤ most_sectors → sectors ≤ length image
-    → newest flat_version image ≡ Some (new_seal tag sectors) → StandsOver image (new_held tag sectors) (first_standing sectors)
+    → newest image_version image ≡ Some (new_seal tag sectors) → StandsOver image (new_held tag sectors) (first_standing sectors)
 new_stands_over tag sectors image enough few there seals = record {
   is_held = new_is_held tag sectors image enough few there seals;
   sectors = refl;

@@ -10,9 +10,10 @@ use Rattle.uber_ring.specs.declared.seal.Seal.{Seal}
 use Rattle.pool_model.specs.Pool.{Pool, Pointer}
 use Rattle.pool_model.specs.Table.{TableState, found}
 use Rattle.pool_model.specs.Group.{Standing}
-use Rattle.table_state.specs.Flat.{Flat, SameIn, flat_version, table_in, pointer_of}
+use Rattle.table_state.specs.Flat.{Flat, SameIn, image_version, table_in, pointer_of}
 use Rattle.table_state.specs.Pools.{Held, IsHeld}
-use Rattle.table_state.specs.Holding.{Holds, StandsOver}
+use Rattle.table_state.specs.Holding.{Holds}
+use Rattle.table_state.specs.Over.{StandsOver}
 use Rattle.table_state.specs.declared.slot_record.SlotRecord.{SlotRecord}
 use Rattle.table_state.proofs.FlatLaws.{one_seal, one_keeping, one_state}
 use Rattle.table_state.proofs.Kept.{state_kept, seal_kept, flat_kept}
@@ -75,7 +76,7 @@ slots_same image c table (slot ∷ slots) same = (same.0, slots_same image c tab
 
 -- an image with the same newest seal, and the same pages and blocks, holds the same
 pub holds_kept : (tag : ℕ) (image c : Image) (s : Standing) → Holds tag image s → length c ≡ length image
-    → newest flat_version c ≡ newest flat_version image
+    → newest image_version c ≡ newest image_version image
     → SameIn image c s.pages → SamePointers image c s.pool → SameWaiting image c s.table → Holds tag c s
 holds_kept tag image c s holds count seals pages pointers waits =
     let in_chains : SameIn image c holds.state.flat.named = subst (SameIn image c) (sym holds.pages) pages in

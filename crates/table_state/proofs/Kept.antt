@@ -14,7 +14,7 @@ use Rattle.page_tree.specs.declared.pointer.PagePtr.{PagePtr}
 use Rattle.uber_ring.specs.Ring.{newest}
 use Rattle.pool_model.specs.Pool.{Pool, Pointer}
 use Rattle.pool_model.specs.Table.{TableState}
-use Rattle.table_state.specs.Flat.{Flat, IsRead, StandsFor, Reads, SameIn, flat_version, table_in, pointer_of}
+use Rattle.table_state.specs.Flat.{Flat, IsRead, StandsFor, Reads, SameIn, image_version, table_in, pointer_of}
 use Rattle.uber_ring.specs.declared.seal.Seal.{Seal}
 use Rattle.table_state.specs.SealForms.{is_formed, modes_in, quota_in, slots_root, unique_root, duplicate_root, active_root, flushing_root}
 use Rattle.table_state.specs.Sealed.{SameBlocks}
@@ -188,7 +188,7 @@ module _ (image c : Image) (count : length c ≡ length image) where
       }
 
   -- so the image stands for the same pool with the same table
-  pub state_kept : (tag : ℕ) (pool : Pool) (table : TableState) (state : StandsFor tag image pool table) → newest flat_version c ≡ newest flat_version image → SameIn image c state.flat.named
+  pub state_kept : (tag : ℕ) (pool : Pool) (table : TableState) (state : StandsFor tag image pool table) → newest image_version c ≡ newest image_version image → SameIn image c state.flat.named
       → AllByRecursion (λ slot. sector_at c slot.pointer.place ≡ sector_at image slot.pointer.place) state.flat.slots → StandsFor tag c pool table
   state_kept tag pool table state seals pages blocks = record {
     seal = state.seal;
@@ -210,7 +210,7 @@ module _ (image c : Image) (count : length c ≡ length image) where
 
   -- by the same seal, with the same content of its chains
   module _ (tag : ℕ) (pool : Pool) (table : TableState) (state : StandsFor tag image pool table)
-      (seals : newest flat_version c ≡ newest flat_version image) (pages : SameIn image c state.flat.named)
+      (seals : newest image_version c ≡ newest image_version image) (pages : SameIn image c state.flat.named)
       (blocks : AllByRecursion (λ slot. sector_at c slot.pointer.place ≡ sector_at image slot.pointer.place) state.flat.slots)
     where
       pub seal_kept : (state_kept tag pool table state seals pages blocks).seal ≡ state.seal

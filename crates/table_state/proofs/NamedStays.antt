@@ -2,15 +2,16 @@
 use Rattle.std.proofs.Common.{◌≡◌, ℕ, ◌≤◌, true, length, sym, subst}
 use Rattle.std.specs.Prelude.{slice_index_or}
 use Rattle.std.specs.List.{AllByRecursion}
-use Rattle.ddt_entry.specs.Records.{IsKeyLength}
+use Rattle.ddt_entry.specs.Spelling.{IsKeyLength}
 use Rattle.ddt_entry.specs.declared.entry.Entry.{Entry}
 use Rattle.disk_model.specs.Images.{Image, sector_at}
 use Rattle.uber_ring.specs.Ring.{newest}
 use Rattle.pool_model.specs.Group.{Standing}
 use Rattle.pool_model.specs.Pool.{Pool, Pointer, LiesWithin, run_length}
 use Rattle.pool_model.specs.Table.{TableState, waiting_in, IsTable}
-use Rattle.table_state.specs.Flat.{StandsFor, SameIn, IsWithin, IsChangeWithin, flat_version, table_in}
-use Rattle.table_state.specs.Holding.{Holds, StandsOver}
+use Rattle.table_state.specs.Flat.{StandsFor, SameIn, IsWithin, IsChangeWithin, image_version, table_in}
+use Rattle.table_state.specs.Holding.{Holds}
+use Rattle.table_state.specs.Over.{StandsOver}
 use Rattle.table_state.specs.Pools.{Held}
 use Rattle.table_state.specs.Sound.{IsSound}
 use Rattle.table_state.specs.declared.slot_record.SlotRecord.{SlotRecord}
@@ -79,5 +80,5 @@ module _ (image : Image) (held : Held) (s : Standing) (sound : IsSound held) (ov
         (waiting_used held.used held.sectors held.pages s.pool s.table over.is_held.used_are one_each_waiting))
 
     -- so the image holds what stood
-    pub holds_still : length c ≡ length image → newest flat_version c ≡ newest flat_version image → Holds held.tag c s
+    pub holds_still : length c ≡ length image → newest image_version c ≡ newest image_version image → Holds held.tag c s
     holds_still count seals = holds_kept held.tag image c s (holds_over image held s over) count seals pages_stay pointers_stay waiting_stay

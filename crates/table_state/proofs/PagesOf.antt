@@ -9,7 +9,7 @@ use Rattle.std.proofs.lemmas.Bool.Decides.{nat_tests}
 use Rattle.std.proofs.lemmas.List.{length-map}
 use Rattle.ddt_entry.specs.Changes.{key_in}
 use Rattle.disk_model.specs.Images.{Image}
-use Rattle.page_tree.specs.Chains.{pages_for}
+use Rattle.page_tree.specs.ChainWrites.{pages_for}
 use Rattle.page_tree.specs.declared.pointer.PagePtr.{PagePtr}
 use Rattle.page_tree.proofs.ChainPages.{chain_pages}
 use Rattle.uber_ring.specs.declared.seal.Seal.{Seal}

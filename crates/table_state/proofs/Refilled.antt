@@ -5,7 +5,7 @@ use Rattle.std.proofs.lemmas.List.{length-map}
 use Rattle.ddt_entry.specs.declared.key.Key.{Key}
 use Rattle.disk_model.specs.Images.{Image, sector_at}
 use Rattle.pool_model.specs.declared.commands.Mode.{Mode}
-use Rattle.pool_model.specs.Plain.{Stored}
+use Rattle.pool_model.specs.Mirrors.{Stored}
 use Rattle.pool_model.specs.Pool.{Pool, Pointer, Mark, comes_before, since_of, tracks, tracked_at, GoTogether, LiesWithin, IsWellFormed}
 use Rattle.pool_model.specs.Table.{TableState, found, counted, home_of_pointers, IsApartFrom, waiting_in, Matches}
 use Rattle.table_state.specs.Flat.{mark_of, pointer_of}

@@ -5,19 +5,19 @@ use Rattle.std.specs.List.{count_by}
 use Rattle.std.proofs.lemmas.Bool.Decides.{nat_tests}
 use Rattle.std.proofs.lemmas.List.{length-map}
 use Rattle.std.proofs.lemmas.List.Sums.{length-filter, sum_by-cons}
-use Rattle.ddt_entry.specs.Records.{record_bytes}
+use Rattle.ddt_entry.specs.Spelling.{record_bytes}
 use Rattle.disk_model.specs.Images.{Image}
-use Rattle.page_tree.specs.Chains.{pages_for}
+use Rattle.page_tree.specs.ChainWrites.{pages_for}
 use Rattle.grant_book.specs.Sectors.{marked}
 use Rattle.grant_book.proofs.MarkLaws.{free_marked}
 use Rattle.pool_model.specs.Pool.{Pool}
-use Rattle.pool_model.specs.Plain.{Stored}
+use Rattle.pool_model.specs.Mirrors.{Stored}
 use Rattle.pool_model.specs.Space.{chain_pages, flush_room, image_pages, need}
 use Rattle.pool_model.specs.Table.{TableState, flush_limit}
 use Rattle.table_state.specs.Pools.{Held, IsHeld, slots_after, with_blocks}
 use Rattle.table_state.specs.Flat.{pointer_of}
 use Rattle.table_state.specs.Sealed.{records_in, entry_bytes}
-use Rattle.table_state.specs.SlotRecords.{slot_bytes}
+use Rattle.table_state.specs.Spelling.{slot_bytes}
 use Rattle.table_state.specs.Tables.{unique_in, duplicate_in, table_pages}
 use Rattle.table_state.specs.declared.slot_record.SlotRecord.{SlotRecord}
 use Rattle.table_state.proofs.PagesOf.{pages_within_named}

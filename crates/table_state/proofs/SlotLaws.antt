@@ -7,11 +7,12 @@ use Rattle.std.proofs.lemmas.List.{append-nil, take_at, take-take, drop-take, le
 use Rattle.ddt_entry.specs.declared.entry.SlotKind.{SlotKind}
 use Rattle.ddt_entry.specs.declared.entry.SlotKind.TheVariants.{Plain, Flagged}
 use Rattle.ddt_entry.specs.Bytes.{bytes_at, number_at, number_bytes, zeros, AreBytes}
-use Rattle.ddt_entry.specs.Records.{KeyFits}
+use Rattle.ddt_entry.specs.Spelling.{KeyFits}
 use Rattle.ddt_entry.proofs.Bytes.{length-number_bytes, length-zeros, length-bytes_at, AreBytes-bytes_at, AreBytes-concat, AreBytes-number_bytes, number_at-is, number_at-lt, number_bytes-at_4, number_bytes-at_8}
 use Rattle.ddt_entry.proofs.Parts.{offset_of, part_of, cut, concat-cut}
 use Rattle.table_state.specs.declared.slot_record.SlotRecord.{SlotRecord}
-use Rattle.table_state.specs.SlotRecords.{kind_number, slot_bytes, kind_at, slot_at, kind_said, is_slot, in_range, slot_of, slot_in, FitsSlot, IsSlot, IsSlotForm}
+use Rattle.table_state.specs.SlotRecords.{kind_at, slot_at, kind_said, is_slot, in_range, slot_of, slot_in}
+use Rattle.table_state.specs.Spelling.{kind_number, slot_bytes, FitsSlot, IsSlot, IsSlotForm}
 
 -- ---- The seven parts, and the zeros behind them
 

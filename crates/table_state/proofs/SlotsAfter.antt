@@ -7,24 +7,23 @@ use Rattle.ddt_entry.specs.declared.entry.Pointer.{Pointer as SlotPointer}
 use Rattle.pool_model.specs.declared.closed.SlotChange.{SlotChange}
 use Rattle.pool_model.specs.Pool.{Pairwise}
 use Rattle.table_state.specs.Flat.{stands_before}
-use Rattle.table_state.specs.SlotRecords.{is_slot, FitsSlot}
+use Rattle.table_state.specs.SlotRecords.{is_slot}
+use Rattle.table_state.specs.Spelling.{FitsSlot}
 use Rattle.table_state.specs.Pools.{is_slot_at, insert_slot, slot_with, set_slot, slots_after}
 use Rattle.table_state.specs.Sealed.{changed_slot, ChangesSlotWithin}
 use Rattle.table_state.specs.declared.slot_record.SlotRecord.{SlotRecord}
 use Rattle.pool_model.proofs.Lists.{all_from, all_filter, all_tested, pairs_filter, length-filter-le}
 use Rattle.table_state.proofs.SlotLaws.{is_slot-from, is_slot-true}
+use Rattle.pool_model.proofs.Pointers.{order_through}
 
 -- ---- The order of slots
-
-before_through : (a b c d e f : ℕ) → (nat_lt a c || ((a == c) && nat_lt b d)) ≡ true → (nat_lt c e || ((c == e) && nat_lt d f)) ≡ true → (nat_lt a e || ((a == e) && nat_lt b f)) ≡ true
-before_through a b c d e f one other = grind (arith, nat_tests, one, other)
 
 before_or_behind : (a b c d : ℕ) → (nat_lt a c || ((a == c) && nat_lt b d)) ≡ false → not ((c == a) && (d == b)) ≡ true → (nat_lt c a || ((c == a) && nat_lt d b)) ≡ true
 before_or_behind a b c d not_before apart = grind (arith, nat_tests, not_before, apart)
 
 -- what stands before a slot stands before those behind it
-stands_through : (a b c : SlotRecord) → stands_before a b ≡ true → stands_before b c ≡ true → stands_before a c ≡ true
-stands_through a b c one other = before_through a.lane a.slot b.lane b.slot c.lane c.slot one other
+pub stands_through : (a b c : SlotRecord) → stands_before a b ≡ true → stands_before b c ≡ true → stands_before a c ≡ true
+stands_through a b c one other = order_through a.lane a.slot b.lane b.slot c.lane c.slot one other
 
 -- of two slots at two places one stands before the other
 stands_behind : (new held : SlotRecord) → stands_before new held ≡ false → not (is_slot_at new.lane new.slot held) ≡ true → stands_before held new ≡ true
@@ -125,13 +124,6 @@ pub within_after : (sectors group : ℕ) (changes : List SlotChange) (slots : Li
 within_after sectors group changes slots within all =
     each_after (λ slot. is_slot sectors group slot ≡ true) changes slots
     (all_from (ChangesSlotWithin sectors group) (Makes (λ slot. is_slot sectors group slot ≡ true)) (λ change one. (two_of (λ slot. is_slot sectors group slot ≡ true) FitsSlot change change.pointer one.pointer).0) changes within)
-    all
-
--- and have spellings
-pub fit_after : (sectors group : ℕ) (changes : List SlotChange) (slots : List SlotRecord) → AllByRecursion (ChangesSlotWithin sectors group) changes → AllByRecursion FitsSlot slots → AllByRecursion FitsSlot (slots_after changes slots)
-fit_after sectors group changes slots within all =
-    each_after FitsSlot changes slots
-    (all_from (ChangesSlotWithin sectors group) (Makes FitsSlot) (λ change one. (two_of (λ slot. is_slot sectors group slot ≡ true) FitsSlot change change.pointer one.pointer).1) changes within)
     all
 
 -- ---- A later group

@@ -1,5 +1,5 @@
 -- The slots of a pool in memory are those of its pointers, before and after a change.
-use Rattle.std.proofs.Common.{◌≡◌, ℕ, Bool, true, false, cond, not, ◌&&◌, ◌==◌, List, [], ◌∷◌, ◌++◌, filter, find, map, Option, Some, None, refl, sym, ap, ◌∙◌}
+use Rattle.std.proofs.Common.{◌≡◌, ℕ, Bool, true, false, not, ◌&&◌, ◌==◌, List, [], ◌∷◌, ◌++◌, filter, find, map, Option, Some, None, refl, sym, ap, ◌∙◌}
 use Rattle.std.specs.Prelude.{nat_lt, if◌then◌else◌}
 use Rattle.std.specs.List.{AllByRecursion}
 use Rattle.std.proofs.lemmas.List.Sums.{fold-append}
@@ -80,21 +80,6 @@ pub slot_set : (p : Pointer) (ps : List Pointer) → find (is_at p.lane p.slot) 
     → set_slot (map slot_of ps) (change_to p) ≡ map slot_of (insert_pointer p ps)
 slot_set p ps empty = ap (insert_slot (slot_of p)) (none_lost p.lane p.slot ps (all_missed (is_at p.lane p.slot) ps empty))
     ∙ inserted p ps
-
--- and a change to nothing takes from the slots what it takes from the pool
-pub slot_emptied : (lane slot : ℕ) (ps : List Pointer)
-    → set_slot (map slot_of ps) (record { lane = lane; slot = slot; pointer = None }) ≡ map slot_of
-    (filter (λ q. not (is_at lane slot q)) ps)
-slot_emptied lane slot [] = refl
-slot_emptied lane slot (q ∷ qs) = by_test (is_at lane slot q) (slot_emptied lane slot qs)
-  where
-    by_test : (b : Bool) → filter (λ held. not (is_slot_at lane slot held)) (map slot_of qs) ≡ map slot_of
-        (filter (λ r. not (is_at lane slot r)) qs)
-        → cond (not b) (slot_of q ∷ filter (λ held. not (is_slot_at lane slot held)) (map slot_of qs))
-        (filter (λ held. not (is_slot_at lane slot held)) (map slot_of qs))
-        ≡ map slot_of (cond (not b) (q ∷ filter (λ r. not (is_at lane slot r)) qs) (filter (λ r. not (is_at lane slot r)) qs))
-    by_test true rest = rest
-    by_test false rest = ap (λ (ss : List SlotRecord). slot_of q ∷ ss) rest
 
 -- one change more is set behind the others
 pub change_behind : (changes : List SlotChange) (change : SlotChange) (slots : List SlotRecord)

@@ -5,7 +5,8 @@ use Rattle.std.specs.List.{AllByRecursion}
 use Rattle.std.specs.Result.{result_unwrap_or}
 use Rattle.std.proofs.lemmas.Bool.{and_parts, leb-true}
 use Rattle.ddt_entry.specs.Changes.{key_in}
-use Rattle.ddt_entry.specs.Records.{Fields, IsKeyLength, is_key_length, is_no_home, malformed, change_of, change_in, fields_in}
+use Rattle.ddt_entry.specs.Records.{Fields, is_key_length, is_no_home, malformed, change_of, change_in, fields_in}
+use Rattle.ddt_entry.specs.Spelling.{IsKeyLength}
 use Rattle.ddt_entry.specs.declared.entry.Entry.{Entry}
 use Rattle.ddt_entry.specs.declared.entry.Change.{Change}
 use Rattle.ddt_entry.specs.declared.entry.Change.TheVariants as changes
@@ -28,6 +29,7 @@ use Rattle.pool_model.proofs.Sorted.{all_fold}
 use Rattle.table_state.proofs.TableBack.{is_table_in, table_in_within}
 use Rattle.pool_model.proofs.TablePuts.{entries_put, changes_put}
 use Rattle.table_state.proofs.UsedLaws.{length-used_sectors, ring_is_used, slot_lengths}
+use Rattle.ddt_entry.proofs.RecordLaws.{is_key_length-from}
 
 -- ---- What records spell
 
@@ -64,11 +66,6 @@ right change = Ok change
 same_change : (a b : Change) → right a ≡ right b → a ≡ b
 same_change a b same = ap (λ (r : Result Change Malformed). result_unwrap_or r a) same
 
-in_length : (len : ℕ) → is_key_length len ≡ true → IsKeyLength len
-in_length len is =
-    let parts = and_parts (nat_le 1 len) (nat_le len 4_096) is in
-    (leb-true 1 len parts.0, leb-true len 4_096 parts.1)
-
 said_length : (fields : Fields) (change : Change) → change_of fields ≡ right change → HasLength change
 said_length fields change is =
     by_tests (is_key_length fields.key.len) (fields.kind == 1) ((fields.kind == 2) && is_no_home fields.home) refl is
@@ -80,9 +77,9 @@ said_length fields change is =
     by_tests false first second long same = absurd (cc same)
     by_tests true true second long same =
         subst HasLength (same_change (changes.Entry (record { key = fields.key; home = fields.home })) change same)
-        (in_length fields.key.len long)
+        (is_key_length-from fields.key.len long)
     by_tests true false true long same =
-        subst HasLength (same_change (changes.Gone fields.key) change same) (in_length fields.key.len long)
+        subst HasLength (same_change (changes.Gone fields.key) change same) (is_key_length-from fields.key.len long)
     by_tests true false false long same = absurd (cc same)
 
 -- a change that bytes spell has a key of a length that a key can have

@@ -3,14 +3,16 @@ use Rattle.std.proofs.Common.{◌≡◌, ℕ, true, List, [], ◌∷◌, Some, R
 use Rattle.std.specs.List.{AllByRecursion}
 use Rattle.std.proofs.lemmas.List.{append-nil}
 use Rattle.ddt_entry.specs.Changes.{key_in}
-use Rattle.ddt_entry.specs.Records.{record_bytes, change_in, IsKeyLength, Fits as ChangeFits}
+use Rattle.ddt_entry.specs.Records.{change_in}
+use Rattle.ddt_entry.specs.Spelling.{record_bytes, IsKeyLength, Fits as ChangeFits}
 use Rattle.ddt_entry.specs.declared.entry.Entry.{Entry}
 use Rattle.ddt_entry.specs.declared.entry.Change.{Change}
 use Rattle.ddt_entry.specs.declared.entry.Change.TheVariants as changes
 use Rattle.ddt_entry.specs.declared.record.Malformed.{Malformed}
 use Rattle.ddt_entry.proofs.RecordLaws.{written as change_written, length-record}
 use Rattle.page_tree.specs.Chains.{record_len}
-use Rattle.table_state.specs.SlotRecords.{slot_bytes, slot_in, is_slot, FitsSlot}
+use Rattle.table_state.specs.SlotRecords.{slot_in, is_slot}
+use Rattle.table_state.specs.Spelling.{slot_bytes, FitsSlot}
 use Rattle.table_state.specs.Sealed.{entry_bytes}
 use Rattle.table_state.specs.declared.slot_record.SlotRecord.{SlotRecord}
 use Rattle.pool_model.proofs.Lists.{all_from_both}

@@ -2,16 +2,16 @@
 use Rattle.std.proofs.Common.{◌≡◌, ℕ, ◌<◌, ◌≤◌, ◌^◌, List, [], ◌∷◌, ◌++◌, Option, Some, map, length, get_or, refl, sym, ap, subst, ◌∙◌, append_assoc, arith}
 use Rattle.std.specs.List.{AllByRecursion}
 use Rattle.std.proofs.lemmas.List.{append-nil}
-use Rattle.ddt_entry.specs.Records.{record_bytes, IsKeyLength, Fits as ChangeFits}
+use Rattle.ddt_entry.specs.Spelling.{record_bytes, IsKeyLength, Fits as ChangeFits}
 use Rattle.ddt_entry.specs.declared.entry.Change.TheVariants as changes
 use Rattle.disk_model.specs.Images.{Image}
-use Rattle.page_tree.specs.Chains.{pages_for, AreOpen}
+use Rattle.page_tree.specs.ChainWrites.{pages_for, AreOpen}
 use Rattle.uber_ring.specs.declared.seal.Seal.{Seal}
 use Rattle.pool_model.specs.declared.commands.Mode.{Mode}
 use Rattle.pool_model.specs.Pool.{Pool, Pointer}
-use Rattle.pool_model.specs.Plain.{Stored}
+use Rattle.pool_model.specs.Mirrors.{Stored}
 use Rattle.pool_model.specs.Table.{TableState}
-use Rattle.table_state.specs.SlotRecords.{slot_bytes}
+use Rattle.table_state.specs.Spelling.{slot_bytes}
 use Rattle.table_state.specs.Flat.{Flat, IsRead, HoldTogether, StandsFor, IsWithin, table_in, pool_in, pointer_of}
 use Rattle.table_state.specs.Tables.{unique_in, duplicate_in}
 use Rattle.table_state.specs.Pools.{with_blocks, pool_after}

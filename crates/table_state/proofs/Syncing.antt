@@ -4,7 +4,7 @@ use Rattle.std.specs.List.{AllByRecursion}
 use Rattle.ddt_entry.specs.declared.entry.Entry.{Entry}
 use Rattle.ddt_entry.specs.declared.entry.Change.{Change}
 use Rattle.ddt_entry.specs.declared.entry.Change.TheVariants as changes
-use Rattle.ddt_entry.specs.Records.{IsKeyLength}
+use Rattle.ddt_entry.specs.Spelling.{IsKeyLength}
 use Rattle.pool_model.specs.Table.{TableState, sync_table}
 use Rattle.table_state.specs.Flat.{IsWithin, IsChangeWithin}
 use Rattle.table_state.specs.Sound.{HasLength, HasKeyLengths}

@@ -6,10 +6,10 @@ use Rattle.ddt_entry.specs.Changes.{key_in}
 use Rattle.ddt_entry.specs.declared.entry.Entry.{Entry}
 use Rattle.ddt_entry.specs.declared.entry.Change.{Change}
 use Rattle.ddt_entry.specs.declared.entry.Change.TheVariants as changes
-use Rattle.page_tree.specs.Chains.{pages_for}
+use Rattle.page_tree.specs.ChainWrites.{pages_for}
 use Rattle.pool_model.specs.Table.{TableState, set_entry, drop_entry, log_change, logged, flush_entry, flushed, is_due, aged, swapped, flush_limit, sync_table}
 use Rattle.table_state.specs.Tables.{unique_in, duplicate_in, table_pages}
-use Rattle.pool_model.proofs.Lists.{filter_whole, all_each, passing_filter, length-filter-le}
+use Rattle.pool_model.proofs.Lists.{passing_filter, length-filter-le}
 use Rattle.pool_model.proofs.Sorted.{passing_put, length-put}
 use Rattle.pool_model.proofs.TablePuts.{entries_put, changes_put}
 
@@ -55,12 +55,6 @@ unique_sync log table = passing_sync (λ entry. entry.home.count == 1) log table
 
 pub duplicate_sync : (log : List Change) (table : TableState) → length (duplicate_in (sync_table log table).zap) ≤ length (duplicate_in table.zap) + flush_limit table
 duplicate_sync log table = passing_sync (λ entry. nat_lt 1 entry.home.count) log table
-
-pub zap_sync : (log : List Change) (table : TableState) → length (sync_table log table).zap ≤ length table.zap + flush_limit table
-zap_sync log table = omega (arith, passing_sync (λ entry. true) log table, whole (sync_table log table).zap, whole table.zap)
-  where
-    whole : (zap : List Entry) → length (filter (λ entry. true) zap) ≡ length zap
-    whole zap = ap length (filter_whole (λ entry. true) zap (all_each (λ entry. true ≡ true) (λ entry. refl) zap))
 
 -- ---- The logs
 

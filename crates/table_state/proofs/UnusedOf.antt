@@ -13,7 +13,7 @@ use Rattle.pool_model.specs.Pool.{Pool, Pointer, Pairwise, IsApart, run_length}
 use Rattle.pool_model.specs.Space.{is_used, lies_in, used_sectors}
 use Rattle.pool_model.specs.Table.{TableState, waiting_in}
 use Rattle.pool_model.specs.Group.{Standing, IsFree, AreFresh}
-use Rattle.table_state.specs.Holding.{StandsOver}
+use Rattle.table_state.specs.Over.{StandsOver}
 use Rattle.table_state.specs.Pools.{Held}
 use Rattle.pool_model.proofs.Lists.{all_from, all_take, pairs_front}
 use Rattle.pool_model.proofs.Members.{clash}

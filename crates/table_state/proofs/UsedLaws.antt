@@ -8,7 +8,7 @@ use Rattle.std.proofs.lemmas.List.{get_or_past}
 use Rattle.std.proofs.lemmas.List.FromFn.{fill_by_all, length-map-range_with_len, get_or-map-range_with_len}
 use Rattle.ddt_entry.specs.Changes.{key_in}
 use Rattle.ddt_entry.specs.Keys.{key_eq}
-use Rattle.ddt_entry.specs.Records.{IsKeyLength}
+use Rattle.ddt_entry.specs.Spelling.{IsKeyLength}
 use Rattle.ddt_entry.specs.declared.key.Key.{Key}
 use Rattle.ddt_entry.specs.declared.entry.Entry.{Entry}
 use Rattle.ddt_entry.specs.declared.entry.Change.{Change}
@@ -17,7 +17,7 @@ use Rattle.disk_model.specs.Images.{Image}
 use Rattle.grant_book.specs.Sectors.{marked, ring_used}
 use Rattle.grant_book.proofs.MarkLaws.{length-marked, marked-at, length-ring_used, ring_used-at}
 use Rattle.pool_model.specs.declared.commands.Mode.{Mode}
-use Rattle.pool_model.specs.Plain.{Stored}
+use Rattle.pool_model.specs.Mirrors.{Stored}
 use Rattle.pool_model.specs.Pool.{Pool, Pointer, run_length}
 use Rattle.pool_model.specs.Space.{is_used, lies_in, used_sectors}
 use Rattle.pool_model.specs.Table.{TableState, set_found, set_entry, drop_entry, entries_found, waiting_in}
@@ -116,7 +116,8 @@ any_pointer : (test : (place : ℕ) → Key → Bool) (image image' : Image) (ta
 any_pointer test image image' table table' [] = refl
 any_pointer test image image' table table' (slot ∷ slots) = ap (λ b. test slot.pointer.place slot.pointer.key || b) (any_pointer test image image' table table' slots)
 
-map_same : (f g : ℕ → Bool) (xs : List ℕ) → ((x : ℕ) → f x ≡ g x) → map f xs ≡ map g xs
+-- tests that agree map a list alike
+pub map_same : (f g : ℕ → Bool) (xs : List ℕ) → ((x : ℕ) → f x ≡ g x) → map f xs ≡ map g xs
 map_same f g [] same = refl
 map_same f g (x ∷ xs) same = ap (λ b. b ∷ map f xs) (same x) ∙ ap (λ (bs : List Bool). g x ∷ bs) (map_same f g xs same)
 

@@ -6,12 +6,12 @@ use Rattle.ddt_entry.specs.declared.entry.Home.{Home}
 use Rattle.ddt_entry.specs.declared.entry.Change.{Change}
 use Rattle.disk_model.specs.Images.{Image, sector_at}
 use Rattle.grant_book.specs.Sectors.{marked}
-use Rattle.page_tree.specs.Chains.{pages_for}
+use Rattle.page_tree.specs.ChainWrites.{pages_for}
 use Rattle.pool_model.specs.declared.commands.Mode.{Mode}
 use Rattle.pool_model.specs.declared.closed.Closed.{Closed}
 use Rattle.pool_model.specs.declared.closed.SlotChange.{SlotChange}
 use Rattle.pool_model.specs.Pool.{Pool, IsWellFormed}
-use Rattle.pool_model.specs.Plain.{Stored, stored_of}
+use Rattle.pool_model.specs.Mirrors.{Stored, stored_of}
 use Rattle.pool_model.specs.Table.{TableState, Matches, found, sync_table, waiting_in}
 use Rattle.pool_model.specs.Group.{Standing}
 use Rattle.table_state.specs.Flat.{IsChangeWithin}

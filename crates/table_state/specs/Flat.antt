@@ -21,9 +21,9 @@ use Rattle.table_state.specs.SealForms.{is_formed, modes_in, quota_in, checkpoin
 use Rattle.table_state.specs.SlotRecords.{slot_in}
 use Rattle.table_state.specs.declared.slot_record.SlotRecord.{SlotRecord}
 
--- the version of this image
-abbrev pub flat_version : ℕ
-flat_version = 0
+-- the version of the image that is read and written
+abbrev pub image_version : ℕ
+image_version = 0
 
 -- what the five chains keep, and the sectors of their pages in the order in which they are read
 pub record Flat : Type 0 where
@@ -153,7 +153,7 @@ IsClear named place = list_any (λ sector. sector == place) named ≡ false
 pub record StandsFor (tag : ℕ) (image : Image) (pool : Pool) (table : TableState) : Type 0 where
   pub seal : Seal
   pub flat : Flat
-  pub counts : newest flat_version image ≡ Some seal
+  pub counts : newest image_version image ≡ Some seal
   pub formed : is_formed tag (length image) seal ≡ true
   pub read : IsRead image seal flat
   pub whole : HoldTogether seal flat
@@ -173,7 +173,7 @@ SameIn image c sectors = AllByRecursion (λ sector. sector_at c sector ≡ secto
 
 -- no seal counts: there is no pool
 abbrev pub HasNoPool : Image → Type 0
-HasNoPool image = newest flat_version image ≡ None
+HasNoPool image = newest image_version image ≡ None
 
 -- a seal counts, and the image stands for no pool
 pub record IsDamaged (tag : ℕ) (image : Image) : Type 0 where

@@ -6,7 +6,6 @@ use Rattle.ddt_entry.specs.declared.entry.Home.{Home}
 use Rattle.pool_model.specs.Table.{found}
 use Rattle.pool_model.specs.Group.{Standing}
 use Rattle.table_state.specs.Flat.{StandsFor}
-use Rattle.table_state.specs.Pools.{Held, IsHeld}
 
 -- each home that waits has the bytes in the image that stand at its place
 abbrev pub WaitingStand : Image → Standing → Type 0
@@ -20,11 +19,4 @@ pub record Holds (tag : ℕ) (image : Image) (s : Standing) : Type 0 where
   pub state : StandsFor tag image s.pool s.table
   pub sectors : state.seal.sectors ≡ s.sectors
   pub pages : state.flat.named ≡ s.pages
-  pub waiting : WaitingStand image s
-
--- over this image the pool in memory is what stands
-pub record StandsOver (image : Image) (held : Held) (s : Standing) : Type 0 where
-  pub is_held : IsHeld image held s.pool s.table
-  pub sectors : held.sectors ≡ s.sectors
-  pub pages : held.pages ≡ s.pages
   pub waiting : WaitingStand image s

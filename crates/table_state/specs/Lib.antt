@@ -8,3 +8,5 @@ pub mod Sealed
 pub mod Sound
 pub mod Holding
 pub mod Closing
+pub mod Over
+pub mod Spelling

@@ -7,7 +7,7 @@ use Rattle.pool_model.specs.declared.closed.SlotChange.{SlotChange}
 use Rattle.grant_book.specs.Sectors.{ring_used}
 use Rattle.pool_model.specs.declared.commands.Mode.TheVariants.{On}
 use Rattle.pool_model.specs.Pool.{Pool}
-use Rattle.pool_model.specs.Plain.{Stored}
+use Rattle.pool_model.specs.Mirrors.{Stored}
 use Rattle.pool_model.specs.Space.{used_sectors}
 use Rattle.pool_model.specs.Table.{TableState, empty_table}
 use Rattle.table_state.specs.Flat.{StandsFor, stands_before, pointer_of}

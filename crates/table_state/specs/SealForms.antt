@@ -1,8 +1,7 @@
 -- Which seals have the form of one, and what their numbers say.
-use Rattle.std.specs.Prelude.{ℕ, ◌-◌, ◌^◌, Bool, ◌&&◌, ◌||◌, ◌==◌, nat_le, nat_lt, List, map, replicate, slice_get, Option, Some, None, if◌then◌else◌}
+use Rattle.std.specs.Prelude.{ℕ, ◌-◌, ◌^◌, Bool, ◌&&◌, ◌||◌, ◌==◌, nat_le, nat_lt, List, map, slice_get, Option, Some, None, if◌then◌else◌}
 use Rattle.std.specs.List.{list_all}
 use Rattle.ddt_entry.specs.declared.key.Key.{Key}
-use Rattle.page_tree.specs.Pointers.{null_pointer}
 use Rattle.page_tree.specs.declared.pointer.PagePtr.{PagePtr}
 use Rattle.uber_ring.specs.declared.seal.Seal.{Seal}
 use Rattle.pool_model.specs.declared.commands.Mode.{Mode}
@@ -51,12 +50,6 @@ is_formed tag sectors seal =
 abbrev pub mode_in : ℕ → Mode
 mode_in byte = if byte == 0 then Off else (if byte == 1 then On else Verify)
 
--- and the byte that says it
-abbrev pub mode_byte : Mode → ℕ
-mode_byte Off = 0
-mode_byte On = 1
-mode_byte Verify = 2
-
 abbrev pub modes_in : Seal → List Mode
 modes_in seal = map mode_in seal.modes
 
@@ -83,25 +76,3 @@ active_root seal = slice_get seal.pointers 3
 
 abbrev pub flushing_root : Seal → Option PagePtr
 flushing_root seal = slice_get seal.pointers 4
-
--- the seal of a new pool, which is empty: group 1, lanes on, no quota, null pointers
-abbrev pub new_seal : (tag sectors : ℕ) → Seal
-new_seal tag sectors = record {
-  version = 0;
-  tag = tag;
-  group = 1;
-  sectors = sectors;
-  quota = 0;
-  quota_flag = 0;
-  modes = replicate 16 1;
-  age = 0;
-  active_changes = 0;
-  flushing_changes = 0;
-  checkpoint_flag = 0;
-  checkpoint_len = 0;
-  checkpoint_digest = replicate 32 0;
-  pointers = replicate 6 null_pointer;
-  homes = 0;
-  counts = 0;
-  pages = 0;
-}

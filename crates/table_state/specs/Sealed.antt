@@ -2,13 +2,14 @@
 use Rattle.std.specs.Prelude.{◌≡◌, ℕ, ◌≤◌, true, List, [], ◌∷◌, ◌++◌, length, map, replicate, sum_by, Option, Some, None, IfSome}
 use Rattle.std.specs.List.{AllByRecursion, flat_map}
 use Rattle.ddt_entry.specs.Changes.{key_in}
-use Rattle.ddt_entry.specs.Records.{record_bytes, IsKeyLength, Fits as ChangeFits}
+use Rattle.ddt_entry.specs.Spelling.{record_bytes, IsKeyLength, Fits as ChangeFits}
 use Rattle.ddt_entry.specs.declared.key.Key.{Key}
 use Rattle.ddt_entry.specs.declared.entry.Entry.{Entry}
 use Rattle.ddt_entry.specs.declared.entry.Change.TheVariants as changes
 use Rattle.ddt_entry.specs.declared.entry.Pointer.{Pointer as SlotPointer}
 use Rattle.disk_model.specs.Images.{Image, sector_at}
-use Rattle.page_tree.specs.Chains.{Chain, chain_of, pages_for, pointer_or_null, HoldsWrites, AreOpen}
+use Rattle.page_tree.specs.Chains.{pointer_or_null}
+use Rattle.page_tree.specs.ChainWrites.{Chain, chain_of, pages_for, HoldsWrites, AreOpen}
 use Rattle.page_tree.specs.Pointers.{null_pointer}
 use Rattle.page_tree.specs.declared.pointer.PagePtr.{PagePtr}
 use Rattle.uber_ring.specs.Ring.{newest}
@@ -16,11 +17,12 @@ use Rattle.uber_ring.specs.declared.seal.Seal.{Seal}
 use Rattle.pool_model.specs.declared.commands.Mode.{Mode}
 use Rattle.pool_model.specs.declared.closed.SlotChange.{SlotChange}
 use Rattle.pool_model.specs.Pool.{Pool, Pairwise, IsWellFormed}
-use Rattle.pool_model.specs.Plain.{Stored}
+use Rattle.pool_model.specs.Mirrors.{Stored}
 use Rattle.pool_model.specs.Table.{TableState, Matches, waiting_in, counted_homes, IsTable}
-use Rattle.table_state.specs.SealForms.{mode_byte, fewest_sectors, most_sectors, last_group}
-use Rattle.table_state.specs.SlotRecords.{slot_bytes, is_slot, FitsSlot}
-use Rattle.table_state.specs.Flat.{Flat, flat_version, stands_before, IsClear}
+use Rattle.table_state.specs.SealForms.{fewest_sectors, most_sectors, last_group}
+use Rattle.table_state.specs.Spelling.{mode_byte, slot_bytes, FitsSlot}
+use Rattle.table_state.specs.SlotRecords.{is_slot}
+use Rattle.table_state.specs.Flat.{Flat, image_version, stands_before, IsClear}
 use Rattle.table_state.specs.Tables.{IsTableWithin, unique_in, duplicate_in}
 use Rattle.table_state.specs.Pools.{with_blocks}
 use Rattle.table_state.specs.declared.slot_record.SlotRecord.{SlotRecord}
@@ -78,7 +80,7 @@ checkpoint_digest (Some key) = key.digest
 -- the seal of a group: the settings, the state of the table, the roots of the five chains with a null pointer behind them, and the sums
 abbrev pub seal_of : (tag sectors group : ℕ) → List Mode → Option ℕ → TableState → (roots : List PagePtr) → (pages : ℕ) → Seal
 seal_of tag sectors group modes quota table roots pages = record {
-  version = flat_version;
+  version = image_version;
   tag = tag;
   group = group;
   sectors = sectors;
@@ -147,7 +149,7 @@ SameBlocks image c slots = AllByRecursion (λ slot. sector_at c slot.pointer.pla
 
 -- an image after a group's sync: the group's seal counts, its chains are there, and the blocks of its slots stand as in the old image with the group's blocks
 pub record IsSealedImage (tag sectors group : ℕ) (image c : Image) (slots : List SlotRecord) (table : TableState) (modes : List Mode) (quota : Option ℕ) (contents : List Stored) (parts : List ChainPart) : Type 0 where
-  pub counts : newest flat_version c ≡ Some (seal_of tag sectors group modes quota table (roots_of parts) (length (places_in parts)))
+  pub counts : newest image_version c ≡ Some (seal_of tag sectors group modes quota table (roots_of parts) (length (places_in parts)))
   pub there : sectors ≤ length c
   pub held : HoldsParts c parts
   pub blocks : SameBlocks (with_blocks contents image) c slots

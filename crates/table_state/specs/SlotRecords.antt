@@ -9,33 +9,12 @@
 --       48      8  place, from 32 to the pool's sectors less 1
 --       56      8  birth, from 1 to the seal's group
 --       64      8  zeros, which no reader looks at
-use Rattle.std.specs.Prelude.{◌≡◌, ℕ, ◌^◌, ◌<◌, ◌≤◌, Bool, ◌==◌, ◌&&◌, nat_le, nat_lt, if◌then◌else◌, ◌⊎◌, List, ◌++◌, Option, Some, None}
-use Rattle.ddt_entry.specs.Bytes.{bytes_at, number_at, number_bytes, zeros}
-use Rattle.ddt_entry.specs.Records.{is_key_length, IsKeyLength, KeyFits}
+use Rattle.std.specs.Prelude.{ℕ, Bool, ◌==◌, ◌&&◌, nat_le, nat_lt, if◌then◌else◌, List, Option, Some, None}
+use Rattle.ddt_entry.specs.Bytes.{bytes_at, number_at}
+use Rattle.ddt_entry.specs.Records.{is_key_length}
 use Rattle.ddt_entry.specs.declared.entry.SlotKind.{SlotKind}
 use Rattle.ddt_entry.specs.declared.entry.SlotKind.TheVariants.{Plain, Flagged}
 use Rattle.table_state.specs.declared.slot_record.SlotRecord.{SlotRecord}
-
--- ---- The spelling
-
--- the number that stands for a kind
-abbrev pub kind_number : SlotKind → ℕ
-kind_number Plain = 1
-kind_number Flagged = 2
-
--- the one spelling of a slot: 72 bytes
-abbrev pub slot_bytes : SlotRecord → List ℕ
-slot_bytes held =
-    number_bytes 4 held.lane
-    ++ number_bytes 4 held.slot
-    ++ number_bytes 4 (kind_number held.pointer.kind)
-    ++ number_bytes 4 held.pointer.key.len
-    ++ held.pointer.key.digest
-    ++ number_bytes 8 held.pointer.place
-    ++ number_bytes 8 held.pointer.birth
-    ++ zeros 8
-
--- ---- What bytes spell
 
 -- the number that stands where the kind does
 abbrev pub kind_at : List ℕ → ℕ
@@ -81,26 +60,3 @@ slot_of sectors group (Some kind) bytes = in_range sectors group (slot_at kind b
 -- the record that the first 72 bytes spell
 abbrev pub slot_in : (sectors group : ℕ) → List ℕ → Option SlotRecord
 slot_in sectors group bytes = slot_of sectors group (kind_said (kind_at bytes)) bytes
-
--- ---- Which records and which bytes have the form
-
--- each part of the record fits its field
-pub record FitsSlot (held : SlotRecord) : Type 0 where
-  pub lane : held.lane < 2 ^ 32
-  pub slot : held.slot < 2 ^ 32
-  pub key : KeyFits held.pointer.key
-  pub place : held.pointer.place < 2 ^ 64
-  pub birth : held.pointer.birth < 2 ^ 64
-
--- each field is in its range, by the table
-pub record IsSlot (sectors group : ℕ) (held : SlotRecord) : Type 0 where
-  pub lane : held.lane ≤ 15
-  pub slot : held.slot ≤ 65_535
-  pub len : IsKeyLength held.pointer.key.len
-  pub place : (32 ≤ held.pointer.place) × (held.pointer.place < sectors)
-  pub birth : (1 ≤ held.pointer.birth) × (held.pointer.birth ≤ group)
-
--- the bytes begin with the record of a slot, by the table
-pub record IsSlotForm (sectors group : ℕ) (bytes : List ℕ) : Type 0 where
-  pub kind : (kind_at bytes ≡ 1) ⊎ (kind_at bytes ≡ 2)
-  pub ranges : IsSlot sectors group (slot_at Plain bytes)

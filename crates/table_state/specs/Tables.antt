@@ -2,7 +2,7 @@
 use Rattle.std.specs.Prelude.{ℕ, ◌+◌, ◌==◌, nat_lt, List, length, filter}
 use Rattle.std.specs.List.{AllByRecursion}
 use Rattle.ddt_entry.specs.declared.entry.Entry.{Entry}
-use Rattle.page_tree.specs.Chains.{pages_for}
+use Rattle.page_tree.specs.ChainWrites.{pages_for}
 use Rattle.pool_model.specs.Table.{TableState}
 use Rattle.table_state.specs.Flat.{IsWithin, IsChangeWithin}
 

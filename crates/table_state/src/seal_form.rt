@@ -1,8 +1,12 @@
 ghost use Rattle.std.specs.Prelude.{◌≡◌};
-ghost use Rattle.table_state.specs.SealForms.{has_group, has_size, has_flags, has_modes, has_checkpoint, is_formed, new_seal};
+ghost use Rattle.table_state.specs.SealForms.{has_group, has_size, has_flags, has_modes, has_checkpoint, is_formed};
+ghost use Rattle.table_state.specs.Spelling.{new_seal};
 
 use page_tree::PagePtr;
 use uber_ring::{FEWEST_SECTORS, Seal};
+
+/// The version of the image that is read and written.
+pub const IMAGE_VERSION: u32 = 0;
 
 /// How many sectors a pool has at the most.
 pub const MOST_SECTORS: u64 = 1_000_000;
@@ -63,7 +67,7 @@ pub fn new_seal(tag: u8, sectors: u64) -> Seal
     ensures { result ≡ new_seal tag sectors }
 {
     Seal {
-        version: 0,
+        version: IMAGE_VERSION,
         tag: tag as u32,
         group: 1,
         sectors,

@@ -1,5 +1,6 @@
 ghost use Rattle.std.specs.Prelude.{◌≡◌};
-ghost use Rattle.table_state.specs.SealForms.{mode_in, mode_byte};
+ghost use Rattle.table_state.specs.SealForms.{mode_in};
+ghost use Rattle.table_state.specs.Spelling.{mode_byte};
 ghost use Rattle.pool_model.specs.declared.commands.Mode.{Mode};
 
 use pool_model::Mode;
@@ -25,8 +26,3 @@ pub fn byte_of(mode: Mode) -> u8
         Mode::Verify => 2,
     }
 }
-
-/// A mode is read back from its byte. It does nothing.
-pub fn modes_read_back()
-    ensures { (mode : Mode) → mode_in (mode_byte mode) ≡ mode }
-{}

@@ -1,10 +1,10 @@
 //! A slot of a lane as 72 bytes, and back.
 
-ghost use Rattle.std.specs.Prelude.{◌≡◌, ℕ, ◌≤◌, ◌↔◌, List, ◌++◌, length, take, Option, Some, None, IsSome};
-ghost use Rattle.ddt_entry.specs.Bytes.{AreBytes};
-ghost use Rattle.ddt_entry.specs.Records.{KeyFits};
+ghost use Rattle.std.specs.Prelude.{◌≡◌, Option, Some, None};
+ghost use Rattle.ddt_entry.specs.Spelling.{KeyFits};
 ghost use Rattle.table_state.specs.declared.slot_record.SlotRecord.{SlotRecord};
-ghost use Rattle.table_state.specs.SlotRecords.{kind_number, slot_bytes, kind_said, slot_at, is_slot, in_range, slot_in, FitsSlot, IsSlot, IsSlotForm};
+ghost use Rattle.table_state.specs.SlotRecords.{kind_said, slot_at, is_slot, slot_in};
+ghost use Rattle.table_state.specs.Spelling.{kind_number, slot_bytes, FitsSlot};
 
 use ddt_entry::fields::{array_at, u32_at, u64_at};
 use ddt_entry::{Key, MAX_BLOCK_BYTES, Pointer, SlotKind};
@@ -151,29 +151,3 @@ pub fn slot_fits(held: SlotRecord)
 {
     key_fits(held.pointer.key);
 }
-
-/// The form is one in both directions. It does nothing: its clauses are laws of the definitions.
-pub fn slots_read_back()
-    // What is written is read back, whatever follows it.
-    ensures written { (sectors group : ℕ) (held : SlotRecord) (rest : List ℕ) → FitsSlot held
-        → IsSlot sectors group held → slot_in sectors group (slot_bytes held ++ rest) ≡ Some held }
-    // What is read was written so, up to the last 8 bytes, and it fits and is in range.
-    ensures read { (sectors group : ℕ) (bytes : List ℕ) (held : SlotRecord) → AreBytes bytes → 72 ≤ length bytes
-        → slot_in sectors group bytes ≡ Some held
-        → (take 64 bytes ≡ take 64 (slot_bytes held)) × FitsSlot held × IsSlot sectors group held }
-    // A record is 72 bytes.
-    ensures len { (held : SlotRecord) → FitsSlot held → length (slot_bytes held) ≡ 72 }
-    ensures bytes { (held : SlotRecord) → FitsSlot held → AreBytes (slot_bytes held) }
-    // What follows the first 64 bytes doesn't matter.
-    ensures alike { (sectors group : ℕ) (one other : List ℕ) → take 64 one ≡ take 64 other
-        → slot_in sectors group one ≡ slot_in sectors group other }
-{}
-
-/// Which bytes are records: those that have the form by the table, and no others. It does nothing: its clauses are
-/// laws of the definitions.
-pub fn slots_by_the_table()
-    ensures right { (sectors group : ℕ) (bytes : List ℕ) → IsSome (slot_in sectors group bytes)
-        ↔ IsSlotForm sectors group bytes }
-    ensures wrong { (sectors group : ℕ) (bytes : List ℕ) → (slot_in sectors group bytes ≡ None)
-        ↔ (¬ IsSlotForm sectors group bytes) }
-{}

@@ -7,21 +7,23 @@ use Rattle.std.specs.List.{AllByRecursion, list_any, range_with_len}
 use Rattle.std.proofs.lemmas.Bool.{lt-ltb}
 use Rattle.std.proofs.lemmas.List.{length-map}
 use Rattle.std.proofs.lemmas.List.FromFn.{get_or-map-range_with_len, length-range_with_len}
-use Rattle.ddt_entry.specs.Records.{Fits as ChangeFits}
+use Rattle.ddt_entry.specs.Spelling.{Fits as ChangeFits}
 use Rattle.ddt_entry.specs.declared.entry.Entry.{Entry}
 use Rattle.ddt_entry.specs.declared.entry.Change.TheVariants as changes
 use Rattle.disk_model.specs.Images.{Image, sector_at}
 use Rattle.uber_ring.specs.declared.seal.Seal.{Seal}
-use Rattle.page_tree.specs.Chains.{AreOpen}
+use Rattle.page_tree.specs.ChainWrites.{AreOpen}
 use Rattle.pool_model.specs.Pool.{Pool, Pointer, Pairwise}
-use Rattle.pool_model.specs.Plain.{Stored}
+use Rattle.pool_model.specs.Mirrors.{Stored}
 use Rattle.pool_model.specs.Space.{is_used, used_sectors}
 use Rattle.pool_model.specs.Table.{TableState, found, waiting_in, IsTable}
 use Rattle.table_state.specs.Flat.{Flat, StandsFor, IsClear, IsWithin, IsChangeWithin, stands_before, pointer_of}
-use Rattle.table_state.specs.Holding.{Holds, StandsOver, WaitingStand}
+use Rattle.table_state.specs.Holding.{Holds, WaitingStand}
+use Rattle.table_state.specs.Over.{StandsOver}
 use Rattle.table_state.specs.Pools.{Held, IsHeld, slots_after, pool_after, with_blocks}
 use Rattle.table_state.specs.SealForms.{last_group}
-use Rattle.table_state.specs.SlotRecords.{is_slot, FitsSlot}
+use Rattle.table_state.specs.SlotRecords.{is_slot}
+use Rattle.table_state.specs.Spelling.{FitsSlot}
 use Rattle.table_state.specs.Sound.{IsSound, HasKeyLengths}
 use Rattle.table_state.specs.Sealed.{ChainPart, places_in, records_in, roots_of, seal_of, flat_of, CanBeKept, AreParts, CanStand, IsSealedImage}
 use Rattle.table_state.specs.Tables.{IsTableWithin}

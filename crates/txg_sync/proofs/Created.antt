@@ -1,10 +1,13 @@
 -- A pool in memory that was created stands for the empty pool.
 use Rattle.std.proofs.Common.{◌≡◌, ℕ, ◌≤◌, Option, Some, None, sym, subst, ap, ◌∙◌, arith}
-use Rattle.disk_model.specs.Images.{Image, TellsImage}
+use Rattle.disk_model.specs.Images.{Image}
+use Rattle.disk_model.specs.DiskLaws.{TellsImage}
 use Rattle.pool_model.specs.Run.{first_standing}
-use Rattle.table_state.specs.Holding.{Holds, StandsOver}
+use Rattle.table_state.specs.Holding.{Holds}
+use Rattle.table_state.specs.Over.{StandsOver}
 use Rattle.table_state.specs.Pools.{Held, new_held}
-use Rattle.table_state.specs.SealForms.{fewest_sectors, most_sectors, new_seal}
+use Rattle.table_state.specs.SealForms.{fewest_sectors, most_sectors}
+use Rattle.table_state.specs.Spelling.{new_seal}
 use Rattle.table_state.proofs.Created.{new_stands_over}
 use Rattle.txg_sync.specs.Creating.{Creates, CreatesAllButGate}
 use Rattle.txg_sync.specs.Stages.{Begins, LeavesBeginning, LeavesFirstGate}

@@ -1,7 +1,7 @@
 -- The table after a group finds few homes, once its chains have places among the pool's sectors.
 use Rattle.std.proofs.Common.{◌≡◌, ◌∙◌, ◌^◌, ◌<◌, ◌≤◌, List, [], length, ap, sym, subst, arith}
 use Rattle.page_tree.proofs.OpenPlaces.{open_places-fewer}
-use Rattle.pool_model.specs.Plain.{Stored}
+use Rattle.pool_model.specs.Mirrors.{Stored}
 use Rattle.pool_model.specs.Table.{TableState, IsTable, entries_found, sync_table}
 use Rattle.pool_model.proofs.Syncing.{sync_keeps}
 use Rattle.ddt_entry.specs.declared.entry.Change.{Change}

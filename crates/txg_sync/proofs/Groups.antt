@@ -2,19 +2,21 @@
 use Rattle.std.proofs.Common.{◌≡◌, ℕ, zero, suc, ◌<◌, ◌≤◌, List, [], ◌∷◌, ◌++◌, Option, Some, None, length, map, drop, get_or, refl, sym, ap, subst, ◌∙◌, arith, inl}
 use Rattle.std.specs.Prelude.{slice_set}
 use Rattle.std.specs.List.{AllByRecursion}
-use Rattle.disk_model.specs.Images.{Image, IsImage, TellsImage, Holds, MayTouch, Torn}
+use Rattle.disk_model.specs.Images.{Image}
+use Rattle.disk_model.specs.DiskLaws.{IsImage, TellsImage, Holds, MayTouch, Torn}
 use Rattle.disk_model.specs.Crashes.{DiskState, LeavesOnly, NothingPending}
 use Rattle.disk_model.proofs.Moments.{and_then, weakened}
-use Rattle.page_tree.specs.Chains.{SameBut, ChainLeaves, AreOpen}
+use Rattle.page_tree.specs.ChainWrites.{SameBut, ChainLeaves, AreOpen}
 use Rattle.page_tree.proofs.OpenPlaces.{is_open-parts}
 use Rattle.page_tree.specs.Pointers.{null_pointer}
 use Rattle.page_tree.specs.declared.pointer.PagePtr.{PagePtr}
-use Rattle.uber_ring.specs.Seals.{FitsSeal, body_bytes, open_gate}
-use Rattle.uber_ring.specs.Ring.{slot_of, fewest_sectors, gate_sector, body_sector, WritingLeaves, OpeningLeaves, GateTorn, BodyTorn}
+use Rattle.uber_ring.specs.Spelling.{FitsSeal, body_bytes, open_gate}
+use Rattle.uber_ring.specs.Ring.{fewest_sectors, gate_sector, body_sector}
+use Rattle.uber_ring.specs.RingWrites.{slot_of, WritingLeaves, OpeningLeaves, GateTorn, BodyTorn}
 use Rattle.uber_ring.specs.declared.seal.Seal.{Seal}
 use Rattle.pool_model.specs.declared.closed.StoredBlock.{StoredBlock}
-use Rattle.pool_model.specs.Plain.{Stored, stored_of}
-use Rattle.table_state.specs.Flat.{flat_version}
+use Rattle.pool_model.specs.Mirrors.{Stored, stored_of}
+use Rattle.table_state.specs.Flat.{image_version}
 use Rattle.table_state.specs.Sealed.{ChainPart, places_in, roots_of}
 use Rattle.txg_sync.specs.Stages.{TakingLeaves, IsTaken, Takes, IsFilled, Fills}
 use Rattle.table_state.specs.Closing.{block_places}
@@ -87,7 +89,7 @@ module _ (sectors : ℕ) (enough : fewest_sectors ≤ sectors) (seal : Seal) (co
       )
 
   -- and then the gate was opened
-  pub seals_of : (own_version : seal.version ≡ flat_version) (old filled new : Option Image) → TellsImage sectors old → FollowsSeal seal.group old → Fills contents parts rooted old filled → Holds filled new (gate_sector slot) open_gate → Seals slot contents parts rooted old new
+  pub seals_of : (own_version : seal.version ≡ image_version) (old filled new : Option Image) → TellsImage sectors old → FollowsSeal seal.group old → Fills contents parts rooted old filled → Holds filled new (gate_sector slot) open_gate → Seals slot contents parts rooted old new
   seals_of own_version None filled new is follows fills opens = tt
   seals_of own_version (Some image) filled new is follows fills opens =
       let f : IsFilled contents parts rooted image fills.0 = fills.2 in (
@@ -97,7 +99,7 @@ module _ (sectors : ℕ) (enough : fewest_sectors ≤ sectors) (seal : Seal) (co
       )
 
   -- or its write failed
-  pub gate_left : (own_version : seal.version ≡ flat_version) (old filled new : Option Image) → TellsImage sectors old
+  pub gate_left : (own_version : seal.version ≡ image_version) (old filled new : Option Image) → TellsImage sectors old
       → FollowsSeal seal.group old
       → Fills contents parts rooted old filled → MayTouch filled new (gate_sector slot) → LeavesGate slot contents parts rooted old new
   gate_left own_version None filled new is follows fills touch = tt
@@ -138,7 +140,7 @@ module _ (sectors : ℕ) (enough : fewest_sectors ≤ sectors) (seal : Seal) (co
     group_unsealed run = weakened Either run (λ c unsealed. inl unsealed)
 
     -- while the gate is opened
-    pub group_opening : (own_version : seal.version ≡ flat_version) {filled new : DiskState} → LeavesOnly old filled Before
+    pub group_opening : (own_version : seal.version ≡ image_version) {filled new : DiskState} → LeavesOnly old filled Before
         → Fills contents parts rooted old.seen filled.seen → NothingPending filled.seen filled.may_leave
         → LeavesOnly filled new (OpeningLeaves slot filled.may_leave) → LeavesOnly old new Either
     group_opening own_version {filled} filling fills still opening =

@@ -6,9 +6,10 @@ use Rattle.std.proofs.lemmas.Bool.Decides.{eqb_tells}
 use Rattle.std.proofs.lemmas.List.Folds.{list_any-append}
 use Rattle.disk_model.specs.Images.{Image, sector_at}
 use Rattle.pool_model.specs.Group.{Standing}
-use Rattle.pool_model.specs.Plain.{Stored}
+use Rattle.pool_model.specs.Mirrors.{Stored}
 use Rattle.table_state.specs.Closing.{PlainClosed, CanSync, block_places}
-use Rattle.table_state.specs.Holding.{Holds, StandsOver}
+use Rattle.table_state.specs.Holding.{Holds}
+use Rattle.table_state.specs.Over.{StandsOver}
 use Rattle.table_state.specs.Pools.{Held}
 use Rattle.table_state.specs.Sound.{IsSound}
 use Rattle.table_state.specs.Sealed.{ChainPart, places_in}

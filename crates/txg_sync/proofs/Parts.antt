@@ -7,8 +7,10 @@ use Rattle.std.proofs.lemmas.Bool.Decides.{eqb_tells}
 use Rattle.std.proofs.lemmas.Grind.{flat_map-append}
 use Rattle.std.proofs.lemmas.List.{append-nil, take_more, drop_more, map-append, length-map, length-take, set-append_right, take-append-drop}
 use Rattle.std.proofs.lemmas.List.Folds.{list_any-append}
-use Rattle.disk_model.specs.Images.{Image, TellsImage}
-use Rattle.page_tree.specs.Chains.{HoldsWrites, AreOpen, SameBut, MayTouchAll, ChainLeaves, Written, write_page, pointer_or_null}
+use Rattle.disk_model.specs.Images.{Image}
+use Rattle.disk_model.specs.DiskLaws.{TellsImage}
+use Rattle.page_tree.specs.Chains.{pointer_or_null}
+use Rattle.page_tree.specs.ChainWrites.{HoldsWrites, AreOpen, SameBut, MayTouchAll, ChainLeaves, Written, write_page}
 use Rattle.page_tree.proofs.ChainBack.{writes_are_held, writes_behind_others}
 use Rattle.page_tree.proofs.OpenPlaces.{is_open-parts, open_places-below, open_places-parts}
 use Rattle.page_tree.specs.declared.pointer.PagePtr.{PagePtr}

@@ -8,9 +8,9 @@ use Rattle.std.proofs.lemmas.List.{length-append, length-take}
 use Rattle.grant_book.specs.Sectors.{marked, AreFirstFree, FindsFree}
 use Rattle.grant_book.proofs.FreeLaws.{IsFree, found-free, found-distinct}
 use Rattle.grant_book.proofs.MarkLaws.{length-marked, marked-at}
-use Rattle.page_tree.specs.Chains.{pages_for, AreOpen}
+use Rattle.page_tree.specs.ChainWrites.{pages_for, AreOpen}
 use Rattle.page_tree.proofs.OpenPlaces.{IsOpen, open_places-from}
-use Rattle.pool_model.specs.Plain.{Stored}
+use Rattle.pool_model.specs.Mirrors.{Stored}
 use Rattle.reserved_list.specs.Listed.{Listed}
 use Rattle.table_state.specs.Sealed.{ChainPart, places_in}
 use Rattle.pool_model.proofs.Lists.{all_from}

@@ -1,7 +1,7 @@
 -- The parts of a plan are what a group leaves.
 use Rattle.std.proofs.Common.{◌≡◌, ℕ, ◌+◌, true, List, [], ◌∷◌, ◌++◌, length, sym, ap, subst, ◌∙◌, arith}
 use Rattle.std.specs.List.{AllByRecursion}
-use Rattle.ddt_entry.specs.Records.{IsKeyLength}
+use Rattle.ddt_entry.specs.Spelling.{IsKeyLength}
 use Rattle.page_tree.specs.Pointers.{null_pointer}
 use Rattle.page_tree.specs.declared.pointer.PagePtr.{PagePtr}
 use Rattle.uber_ring.specs.declared.seal.Seal.{Seal}

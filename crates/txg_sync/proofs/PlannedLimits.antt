@@ -8,7 +8,7 @@ use Rattle.ddt_entry.specs.Keys.{key_eq}
 use Rattle.ddt_entry.specs.declared.entry.Entry.{Entry}
 use Rattle.ddt_entry.specs.declared.entry.Change.{Change}
 use Rattle.ddt_entry.specs.declared.entry.Change.TheVariants as changes
-use Rattle.page_tree.specs.Chains.{pages_for}
+use Rattle.page_tree.specs.ChainWrites.{pages_for}
 use Rattle.pool_model.specs.Table.{TableState, set_found, entries_found, IsTable}
 use Rattle.table_state.specs.Flat.{IsWithin, IsChangeWithin}
 use Rattle.table_state.specs.Tables.{IsTableWithin, unique_in, duplicate_in, table_pages}

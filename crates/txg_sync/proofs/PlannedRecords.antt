@@ -1,7 +1,7 @@
 -- The keys of the entries that a class of the stored table has are keys of the stored table.
 use Rattle.std.proofs.Common.{◌≡◌, Bool, List, All, filter, sym, ap, subst, ◌∙◌}
 use Rattle.std.proofs.lemmas.List.Elements.{All-filter}
-use Rattle.ddt_entry.specs.Records.{IsKeyLength}
+use Rattle.ddt_entry.specs.Spelling.{IsKeyLength}
 use Rattle.ddt_entry.specs.declared.entry.Entry.{Entry}
 
 -- the entries at hand are those of a copy that pass a test

@@ -1,17 +1,20 @@
 -- What the stages of the first seal come to, one after another, where the disk tells its contents and where it doesn't.
 use Rattle.std.proofs.Common.{◌≡◌, ℕ, ◌<◌, ◌≤◌, length, Option, Some, None, Result, Ok, Err, sym, ◌∙◌, subst, inl}
 use Rattle.std.specs.Prelude.{List, OnErr, slice_set}
-use Rattle.disk_model.specs.Images.{Image, IsImage, TellsImage, Stays, Holds, MayTouch, Torn, sector_bytes}
+use Rattle.disk_model.specs.Images.{Image}
+use Rattle.disk_model.specs.DiskLaws.{IsImage, TellsImage, Stays, Holds, MayTouch, Torn, sector_bytes}
 use Rattle.disk_model.proofs.Sectors.{Torn-set, sector_at-set_other}
 use Rattle.std.proofs.lemmas.List.{length-set}
 use Rattle.disk_model.specs.Crashes.{DiskState, LeavesOnly, NothingPending}
 use Rattle.disk_model.proofs.Moments.{and_then, weakened}
-use Rattle.uber_ring.specs.Seals.{FitsSeal, body_bytes, open_gate}
-use Rattle.uber_ring.specs.Ring.{slot_of, gate_sector, body_sector, newest, WritingLeaves, OpeningLeaves, GateTorn, BodyTorn}
+use Rattle.uber_ring.specs.Spelling.{FitsSeal, body_bytes, open_gate}
+use Rattle.uber_ring.specs.Ring.{gate_sector, body_sector, newest}
+use Rattle.uber_ring.specs.RingWrites.{slot_of, WritingLeaves, OpeningLeaves, GateTorn, BodyTorn}
 use Rattle.uber_ring.specs.declared.seal.Seal.{Seal}
 use Rattle.uber_ring.proofs.RingLaws.{torn_body, torn_gate}
-use Rattle.table_state.specs.SealForms.{new_seal, fewest_sectors, most_sectors}
-use Rattle.table_state.specs.Flat.{flat_version}
+use Rattle.table_state.specs.SealForms.{fewest_sectors, most_sectors}
+use Rattle.table_state.specs.Spelling.{new_seal}
+use Rattle.table_state.specs.Flat.{image_version}
 use Rattle.txg_sync.specs.Creating.{HasNoSeal}
 use Rattle.txg_sync.specs.Stages.{TakingLeaves, MayTake, IsTaken, Takes, Unbegun, LeavesUnbegun, Beginning, Begins, LeavesFirstGate}
 use Rattle.txg_sync.proofs.Beginnings.{unbegun_taking, unbegun_body, beginning_gate, begun_opened}
@@ -102,7 +105,7 @@ module _ (tag sectors : ℕ) (image : Image) (old : DiskState) (told : old.seen 
   is : IsImage sectors image
   is = subst (λ (o : Option Image). TellsImage sectors o) told tells
 
-  none : newest flat_version image ≡ None
+  none : newest image_version image ≡ None
   none = subst HasNoSeal told no_seal
 
   -- where the gate wasn't reached

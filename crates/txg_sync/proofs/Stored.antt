@@ -5,10 +5,11 @@ use Rattle.std.specs.List.{list_any}
 use Rattle.std.proofs.lemmas.Bool.{or_parts}
 use Rattle.std.proofs.lemmas.List.Folds.{list_any-append}
 use Rattle.disk_model.specs.Images.{Image}
-use Rattle.disk_model.specs.Crashes.{DiskState, IsDisk, LeavesOnly}
+use Rattle.disk_model.specs.Crashes.{DiskState, LeavesOnly}
+use Rattle.disk_model.specs.DiskLaws.{IsDisk}
 use Rattle.disk_model.proofs.Moments.{and_then, weakened, at_end}
-use Rattle.page_tree.specs.Chains.{SameBut, MayTouchAll, ChainLeaves}
-use Rattle.pool_model.specs.Plain.{Stored}
+use Rattle.page_tree.specs.ChainWrites.{SameBut, MayTouchAll, ChainLeaves}
+use Rattle.pool_model.specs.Mirrors.{Stored}
 use Rattle.table_state.specs.Pools.{with_blocks}
 use Rattle.table_state.specs.Sealed.{ChainPart, places_in}
 use Rattle.table_state.specs.Closing.{block_places}

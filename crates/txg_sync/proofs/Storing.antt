@@ -2,11 +2,12 @@
 use Rattle.std.proofs.Common.{◌≡◌, ℕ, ◌+◌, ◌<◌, List, [], ◌∷◌, ◌++◌, Option, Some, None, length, map, take, get_or, sym, ap, subst, ◌∙◌}
 use Rattle.std.proofs.lemmas.List.{get_or-map, map_more, length-map}
 use Rattle.std.proofs.lemmas.List.Sums.{fold-append}
-use Rattle.disk_model.specs.Images.{Image, Torn, Holds, MayTouch}
-use Rattle.page_tree.specs.Chains.{MayTouchAll, ChainLeaves}
+use Rattle.disk_model.specs.Images.{Image}
+use Rattle.disk_model.specs.DiskLaws.{Torn, Holds, MayTouch}
+use Rattle.page_tree.specs.ChainWrites.{MayTouchAll, ChainLeaves}
 use Rattle.page_tree.proofs.Chaining.{touched_more, touched_last, leaves_more}
 use Rattle.pool_model.specs.declared.closed.StoredBlock.{StoredBlock}
-use Rattle.pool_model.specs.Plain.{Stored, stored_of}
+use Rattle.pool_model.specs.Mirrors.{Stored, stored_of}
 use Rattle.table_state.specs.Pools.{block_sector, put_block, with_blocks}
 use Rattle.table_state.specs.Closing.{block_places}
 use Rattle.txg_sync.specs.Writing.{Stores}

@@ -3,21 +3,23 @@ use Rattle.std.proofs.Common.{◌≡◌, ℕ, zero, suc, get_or, ◌+◌, ◌^�
 use Rattle.std.specs.Prelude.{replicate}
 use Rattle.std.specs.List.{AllByRecursion}
 use Rattle.std.proofs.lemmas.List.{length-replicate}
-use Rattle.disk_model.specs.Images.{Image, TellsImage, Torn}
-use Rattle.disk_model.specs.Crashes.{DiskState, IsDisk, LeavesOnly, NothingPending}
+use Rattle.disk_model.specs.Images.{Image}
+use Rattle.disk_model.specs.DiskLaws.{TellsImage, Torn, IsDisk}
+use Rattle.disk_model.specs.Crashes.{DiskState, LeavesOnly, NothingPending}
 use Rattle.disk_model.proofs.Moments.{started, weakened}
-use Rattle.page_tree.specs.Chains.{AreOpen}
-use Rattle.uber_ring.specs.Ring.{slot_of, gate_sector, body_sector}
+use Rattle.page_tree.specs.ChainWrites.{AreOpen}
+use Rattle.uber_ring.specs.Ring.{gate_sector, body_sector}
+use Rattle.uber_ring.specs.RingWrites.{slot_of}
 use Rattle.uber_ring.specs.declared.seal.Seal.{Seal}
 use Rattle.pool_model.specs.declared.closed.StoredBlock.{StoredBlock}
-use Rattle.pool_model.specs.Plain.{Stored, stored_of}
+use Rattle.pool_model.specs.Mirrors.{Stored, stored_of}
 use Rattle.pool_model.specs.Pool.{Pool}
 use Rattle.pool_model.specs.Group.{Standing}
 use Rattle.pool_model.specs.Table.{TableState}
-use Rattle.ddt_entry.specs.Records.{Fits as ChangeFits}
+use Rattle.ddt_entry.specs.Spelling.{Fits as ChangeFits}
 use Rattle.ddt_entry.specs.declared.entry.Change.TheVariants as changes
-use Rattle.table_state.specs.SlotRecords.{FitsSlot}
-use Rattle.table_state.specs.Holding.{StandsOver}
+use Rattle.table_state.specs.Spelling.{FitsSlot}
+use Rattle.table_state.specs.Over.{StandsOver}
 use Rattle.table_state.specs.Pools.{Held, slots_after}
 use Rattle.table_state.specs.SealForms.{last_group}
 use Rattle.table_state.specs.Sound.{IsSound}

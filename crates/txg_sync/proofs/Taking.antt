@@ -1,12 +1,15 @@
 -- What the taking of a slot leaves.
 use Rattle.std.proofs.Common.{◌≡◌, ℕ, ◌<◌, ◌≤◌, Bool, true, false, Option, Some, None, refl, sym, subst, ◌∙◌, inl, inr, ⊎_elim}
 use Rattle.std.specs.Prelude.{IfSome, MatchBool, slice_set}
-use Rattle.disk_model.specs.Images.{Image, IsImage, TellsImage, Stays}
-use Rattle.disk_model.specs.Crashes.{DiskState, Elapses, IsDisk, LeavesOnly, NothingPending, SameOutcomes}
+use Rattle.disk_model.specs.Images.{Image}
+use Rattle.disk_model.specs.DiskLaws.{IsImage, TellsImage, Stays}
+use Rattle.disk_model.specs.Crashes.{DiskState, LeavesOnly, NothingPending}
+use Rattle.disk_model.specs.DiskLaws.{Elapses, IsDisk, SameOutcomes}
 use Rattle.disk_model.proofs.Moments.{started, goes_on, and_then, weakened}
 use Rattle.disk_model.proofs.Sectors.{Torn-same, Torn-set}
-use Rattle.uber_ring.specs.Seals.{closed_gate}
-use Rattle.uber_ring.specs.Ring.{slot_count, ring_sectors, gate_sector, gate_is_open, GateTorn, Closes, ClosingLeaves, MayClose}
+use Rattle.uber_ring.specs.Spelling.{closed_gate}
+use Rattle.uber_ring.specs.Ring.{slot_count, gate_sector, gate_is_open}
+use Rattle.uber_ring.specs.RingWrites.{ring_sectors, GateTorn, Closes, ClosingLeaves, MayClose}
 use Rattle.uber_ring.proofs.RingLaws.{torn_gate, seal_at-open}
 use Rattle.uber_ring.proofs.Gates.{length-closed_gate}
 use Rattle.uber_ring.proofs.Written.{gate_closed}

@@ -1,10 +1,12 @@
 -- What the creation of a pool comes to.
 use Rattle.std.specs.Prelude.{◌≡◌, ◌⊎◌, ⊤, ℕ, Option, Some, None}
-use Rattle.disk_model.specs.Images.{Image, Torn}
+use Rattle.disk_model.specs.Images.{Image}
+use Rattle.disk_model.specs.DiskLaws.{Torn}
 use Rattle.uber_ring.specs.Ring.{gate_sector}
 use Rattle.pool_model.specs.Run.{first_standing}
 use Rattle.table_state.specs.Flat.{HasNoPool}
-use Rattle.table_state.specs.Holding.{Holds, StandsOver}
+use Rattle.table_state.specs.Holding.{Holds}
+use Rattle.table_state.specs.Over.{StandsOver}
 use Rattle.table_state.specs.Pools.{Held}
 
 -- no seal counts in told contents

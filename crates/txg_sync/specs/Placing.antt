@@ -2,9 +2,9 @@
 use Rattle.std.specs.Prelude.{◌≡◌, ℕ, ◌<◌, Bool, not, true, false, ◌==◌, List, [], ◌∷◌, length, map, take, drop, slice_index_or, count_by, Option}
 use Rattle.std.specs.List.{AllByRecursion, list_any}
 use Rattle.grant_book.specs.Sectors.{marked}
-use Rattle.page_tree.specs.Chains.{pages_for, AreOpen}
+use Rattle.page_tree.specs.ChainWrites.{pages_for, AreOpen}
 use Rattle.pool_model.specs.declared.commands.Mode.{Mode}
-use Rattle.pool_model.specs.Plain.{Stored}
+use Rattle.pool_model.specs.Mirrors.{Stored}
 use Rattle.pool_model.specs.Space.{used_sectors}
 use Rattle.pool_model.specs.Table.{TableState}
 use Rattle.table_state.specs.Pools.{pool_after}

@@ -1,14 +1,16 @@
 -- What the stages of a sync leave, of told contents and after a crash.
 use Rattle.std.specs.Prelude.{◌≡◌, ◌≢◌, ◌⊎◌, ⊤, ℕ, false, List, length, slice_set, Option, Some, None}
-use Rattle.disk_model.specs.Images.{Image, IsImage, Torn, sector_at}
-use Rattle.uber_ring.specs.Ring.{slot_of, gate_sector, body_sector, gate_is_open, seal_at, newest, SameElsewhere}
-use Rattle.uber_ring.specs.Seals.{FitsSeal, body_bytes}
+use Rattle.disk_model.specs.Images.{Image, sector_at}
+use Rattle.disk_model.specs.DiskLaws.{IsImage, Torn}
+use Rattle.uber_ring.specs.Ring.{gate_sector, body_sector, gate_is_open, seal_at, newest}
+use Rattle.uber_ring.specs.RingWrites.{slot_of, SameElsewhere}
+use Rattle.uber_ring.specs.Spelling.{FitsSeal, body_bytes}
 use Rattle.uber_ring.specs.declared.seal.Seal.{Seal}
-use Rattle.pool_model.specs.Plain.{Stored}
+use Rattle.pool_model.specs.Mirrors.{Stored}
 use Rattle.pool_model.specs.Run.{first_standing}
 use Rattle.table_state.specs.Holding.{Holds}
-use Rattle.table_state.specs.SealForms.{new_seal}
-use Rattle.table_state.specs.Flat.{HasNoPool, flat_version}
+use Rattle.table_state.specs.Spelling.{new_seal}
+use Rattle.table_state.specs.Flat.{HasNoPool, image_version}
 use Rattle.table_state.specs.Sealed.{ChainPart}
 use Rattle.txg_sync.specs.Creating.{NoneOrNew}
 use Rattle.txg_sync.specs.Writing.{IsStored}
@@ -60,7 +62,7 @@ LeavesBeginning tag (Some image) new = (c : Image) × (new ≡ Some c) × Beginn
 
 -- the first seal counts
 pub record Begun (tag : ℕ) (image c : Image) : Type 0 where
-  pub counts : newest flat_version c ≡ Some (new_seal tag (length image))
+  pub counts : newest image_version c ≡ Some (new_seal tag (length image))
   pub new : Holds tag c (first_standing (length image))
   pub outside : SameOutside 1 image c
 

@@ -1,10 +1,13 @@
 -- What the sync of a closed group comes to.
 use Rattle.std.specs.Prelude.{◌≡◌, ◌≢◌, ◌⊎◌, ◌+◌, ⊤, ℕ, true, List, slice_index_or, Option, Some, None}
-use Rattle.disk_model.specs.Images.{Image, Torn, sector_at}
-use Rattle.uber_ring.specs.Ring.{gate_sector, body_sector, slot_of}
+use Rattle.disk_model.specs.Images.{Image, sector_at}
+use Rattle.disk_model.specs.DiskLaws.{Torn}
+use Rattle.uber_ring.specs.Ring.{gate_sector, body_sector}
+use Rattle.uber_ring.specs.RingWrites.{slot_of}
 use Rattle.pool_model.specs.Group.{Standing}
 use Rattle.table_state.specs.Closing.{PlainClosed, standing_with}
-use Rattle.table_state.specs.Holding.{Holds, StandsOver}
+use Rattle.table_state.specs.Holding.{Holds}
+use Rattle.table_state.specs.Over.{StandsOver}
 use Rattle.table_state.specs.Pools.{Held}
 
 -- every sector that something named is as it was, but the two of the next group's slot of the ring

@@ -1,14 +1,15 @@
 -- What the stages of a group's sync leave of an image, before its gate may be open and after.
 use Rattle.std.specs.Prelude.{◌≡◌, ◌≢◌, ◌+◌, ◌⊎◌, ◌≤◌, ⊤, ℕ, ◌==◌, false, List, ◌∷◌, [], ◌++◌, length, Option, Some, None}
 use Rattle.std.specs.List.{list_any}
-use Rattle.disk_model.specs.Images.{Image, Torn, sector_at}
-use Rattle.page_tree.specs.Chains.{SameBut}
+use Rattle.disk_model.specs.Images.{Image, sector_at}
+use Rattle.disk_model.specs.DiskLaws.{Torn}
+use Rattle.page_tree.specs.ChainWrites.{SameBut}
 use Rattle.page_tree.specs.Pointers.{null_pointer}
 use Rattle.uber_ring.specs.Ring.{gate_sector, body_sector, newest}
 use Rattle.uber_ring.specs.declared.seal.Seal.{Seal}
-use Rattle.pool_model.specs.Plain.{Stored}
+use Rattle.pool_model.specs.Mirrors.{Stored}
 use Rattle.table_state.specs.Closing.{block_places}
-use Rattle.table_state.specs.Flat.{flat_version}
+use Rattle.table_state.specs.Flat.{image_version}
 use Rattle.table_state.specs.Pools.{with_blocks}
 use Rattle.table_state.specs.Sealed.{ChainPart, places_in, roots_of, HoldsParts}
 
@@ -47,12 +48,12 @@ pub record TouchesOnly (slot : ℕ) (places : List ℕ) (image c : Image) : Type
 -- the gate isn't open yet: the seal that counted still counts
 pub record IsUnsealed (slot : ℕ) (places : List ℕ) (image c : Image) : Type 0 where
   pub only : TouchesOnly slot places image c
-  pub counts : newest flat_version c ≡ newest flat_version image
+  pub counts : newest image_version c ≡ newest image_version image
 
 -- the gate is open: this seal counts, and the pages and blocks stand at their places
 pub record IsSealed (slot : ℕ) (contents : List Stored) (parts : List ChainPart) (seal : Seal) (image c : Image) : Type 0 where
   pub only : TouchesOnly slot (group_places contents parts) image c
-  pub counts : newest flat_version c ≡ Some seal
+  pub counts : newest image_version c ≡ Some seal
   pub held : HoldsParts c parts
   pub blocks : (at : ℕ) → 32 ≤ at → list_any (λ place. place == at) (places_in parts) ≡ false → sector_at c at ≡ sector_at (with_blocks contents image) at
 
@@ -77,7 +78,7 @@ LeavesGate slot contents parts seal (Some image) new = (c : Image) × (new ≡ S
 -- the seal that counts is the one of the group before
 abbrev pub FollowsSeal : (group : ℕ) → Option Image → Type 0
 FollowsSeal group None = ⊤
-FollowsSeal group (Some image) = (before : Seal) × (newest flat_version image ≡ Some before) × (group ≡ before.group + 1)
+FollowsSeal group (Some image) = (before : Seal) × (newest image_version image ≡ Some before) × (group ≡ before.group + 1)
 
 -- told contents in which these chains stand
 abbrev pub HoldsSince : Option Image → Option Image → List ChainPart → Type 0

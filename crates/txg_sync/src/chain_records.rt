@@ -1,8 +1,8 @@
 ghost use Rattle.std.specs.Prelude.{◌≡◌, All, IfOk, map};
 ghost use Rattle.ddt_entry.specs.Changes.{key_in};
-ghost use Rattle.ddt_entry.specs.Records.{record_bytes, IsKeyLength};
+ghost use Rattle.ddt_entry.specs.Spelling.{record_bytes, IsKeyLength};
 ghost use Rattle.table_state.specs.Sealed.{entry_bytes, records_in};
-ghost use Rattle.table_state.specs.SlotRecords.{slot_bytes};
+ghost use Rattle.table_state.specs.Spelling.{slot_bytes};
 ghost use Rattle.table_state.specs.Tables.{unique_in, duplicate_in};
 
 use ddt_entry::{Change, Entry, RECORD_BYTES, write_change};

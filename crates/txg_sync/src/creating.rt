@@ -1,5 +1,6 @@
 ghost use Rattle.std.specs.Prelude.{◌≡◌, ◌≤◌, ℕ, Some, IfOk, OnOk, IsErrOf};
-ghost use Rattle.disk_model.specs.Images.{Image, Stays};
+ghost use Rattle.disk_model.specs.Images.{Image};
+ghost use Rattle.disk_model.specs.DiskLaws.{Stays};
 ghost use Rattle.disk_model.specs.Crashes.{LeavesOnly, NothingPending};
 ghost use Rattle.disk_model.specs.Faults.{Rose};
 ghost use Rattle.pool_model.specs.declared.faults.SyncFault.TheVariants.{ReadFault, WriteFault, GateFault, Damaged, Memory};

@@ -1,9 +1,10 @@
 ghost use Rattle.std.specs.Prelude.{◌≤◌, OnOk, OnErr};
-ghost use Rattle.disk_model.specs.Images.{Holds, MayTouch};
+ghost use Rattle.disk_model.specs.DiskLaws.{Holds, MayTouch};
 ghost use Rattle.disk_model.specs.Crashes.{LeavesOnly, NothingPending};
 ghost use Rattle.disk_model.specs.Accounts.{Accounts};
-ghost use Rattle.uber_ring.specs.Seals.{body_bytes};
-ghost use Rattle.uber_ring.specs.Ring.{slot_of, body_sector, WritingLeaves};
+ghost use Rattle.uber_ring.specs.Spelling.{body_bytes};
+ghost use Rattle.uber_ring.specs.Ring.{body_sector};
+ghost use Rattle.uber_ring.specs.RingWrites.{slot_of, WritingLeaves};
 
 use disk_model::{Disk, Failed, crash_laws};
 use uber_ring::{Seal, seal_fits, write_body};

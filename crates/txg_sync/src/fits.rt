@@ -2,9 +2,9 @@
 //! whoever needs the law of a list at hand calls its function.
 
 ghost use Rattle.std.specs.List.{AllByRecursion};
-ghost use Rattle.ddt_entry.specs.Records.{Fits, HomeFits};
+ghost use Rattle.ddt_entry.specs.Spelling.{Fits, HomeFits};
 ghost use Rattle.ddt_entry.specs.declared.entry.Change.TheVariants.{Entry as AnEntry};
-ghost use Rattle.table_state.specs.SlotRecords.{FitsSlot};
+ghost use Rattle.table_state.specs.Spelling.{FitsSlot};
 
 use ddt_entry::{Change, Entry, Home};
 use plain_table::PlainTable;

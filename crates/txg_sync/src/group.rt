@@ -1,9 +1,10 @@
 ghost use Rattle.std.specs.Prelude.{◌≡◌, ◌≤◌, ◌<◌, [], Some, length, map, All, OnOk, IsErrOf};
-ghost use Rattle.disk_model.specs.Images.{Image, Stays};
+ghost use Rattle.disk_model.specs.Images.{Image};
+ghost use Rattle.disk_model.specs.DiskLaws.{Stays};
 ghost use Rattle.disk_model.specs.Crashes.{LeavesOnly, NothingPending};
-ghost use Rattle.page_tree.specs.Chains.{pages_for, AreOpen};
-ghost use Rattle.uber_ring.specs.Ring.{slot_of};
-ghost use Rattle.pool_model.specs.Plain.{stored_of};
+ghost use Rattle.page_tree.specs.ChainWrites.{pages_for, AreOpen};
+ghost use Rattle.uber_ring.specs.RingWrites.{slot_of};
+ghost use Rattle.pool_model.specs.Mirrors.{stored_of};
 ghost use Rattle.table_state.specs.Sealed.{places_in};
 ghost use Rattle.txg_sync.specs.SyncFaults.{SealAccounts};
 ghost use Rattle.txg_sync.specs.Stages.{Fills};

@@ -2,7 +2,7 @@ ghost use Rattle.std.specs.Prelude.{◌≡◌, ◌≤◌, ◌^◌, ◌∷◌, []
 ghost use Rattle.page_tree.specs.Pointers.{null_pointer};
 ghost use Rattle.page_tree.specs.declared.pointer.PagePtr.{PagePtr};
 ghost use Rattle.pool_model.specs.Table.{entries_found};
-ghost use Rattle.table_state.specs.SealForms.{mode_byte};
+ghost use Rattle.table_state.specs.Spelling.{mode_byte};
 ghost use Rattle.table_state.specs.Sealed.{flag_of, quota_number, checkpoint_len, checkpoint_digest, seal_of};
 
 use ddt_entry::{Entry, Key};
@@ -10,7 +10,7 @@ use page_tree::PagePtr;
 use plain_table::PlainTable;
 use pool_model::Mode;
 use std::alloc::{AllocError, Global};
-use table_state::byte_of;
+use table_state::{IMAGE_VERSION, byte_of};
 use uber_ring::Seal;
 
 /// The seal of a group, before its roots are known: the settings, the state of the table, null pointers, and the
@@ -33,7 +33,7 @@ pub fn seal_of(
 {
     let homes = counted(table.entries_found(alloc)?);
     Ok(Seal {
-        version: 0,
+        version: IMAGE_VERSION,
         tag: tag as u32,
         group,
         sectors,

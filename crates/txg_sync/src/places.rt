@@ -1,6 +1,6 @@
 ghost use Rattle.std.specs.Prelude.{◌≡◌, ◌<◌, ◌≤◌, ◌+◌, ℕ, true, length, map, take, drop, slice_index_or, IfOk, IfSome, IfNone};
-ghost use Rattle.page_tree.specs.Chains.{pages_for};
-ghost use Rattle.pool_model.specs.Plain.{stored_of};
+ghost use Rattle.page_tree.specs.ChainWrites.{pages_for};
+ghost use Rattle.pool_model.specs.Mirrors.{stored_of};
 ghost use Rattle.grant_book.specs.Sectors.{marked};
 ghost use Rattle.table_state.specs.Closing.{pages_of, block_places};
 ghost use Rattle.txg_sync.specs.Placing.{parts_of, ArePlaced, LacksRoom};

@@ -1,6 +1,6 @@
 ghost use Rattle.std.specs.Prelude.{◌≡◌, ◌≤◌, ◌<◌, ◌+◌, ◌^◌, ◌++◌, ◌∷◌, [], ℕ, true, List, length, slice_index_or, IfOk, IfNone, IfSome};
 ghost use Rattle.std.specs.List.{AllByRecursion};
-ghost use Rattle.ddt_entry.specs.Records.{IsKeyLength};
+ghost use Rattle.ddt_entry.specs.Spelling.{IsKeyLength};
 ghost use Rattle.page_tree.specs.Pointers.{null_pointer};
 ghost use Rattle.page_tree.specs.declared.pointer.PagePtr.{PagePtr};
 ghost use Rattle.pool_model.specs.Table.{entries_found, sync_table};

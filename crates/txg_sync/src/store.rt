@@ -1,8 +1,8 @@
 ghost use Rattle.std.specs.Prelude.{◌≡◌, ◌≤◌, ◌<◌, ◌++◌, [], length, map, drop, All, OnOk};
 ghost use Rattle.disk_model.specs.Crashes.{LeavesOnly};
 ghost use Rattle.disk_model.specs.Accounts.{Accounts};
-ghost use Rattle.page_tree.specs.Chains.{pages_for, AreOpen, MayTouchAll, ChainLeaves};
-ghost use Rattle.pool_model.specs.Plain.{stored_of};
+ghost use Rattle.page_tree.specs.ChainWrites.{pages_for, AreOpen, MayTouchAll, ChainLeaves};
+ghost use Rattle.pool_model.specs.Mirrors.{stored_of};
 ghost use Rattle.table_state.specs.Sealed.{places_in, roots_of};
 ghost use Rattle.table_state.specs.Closing.{block_places};
 ghost use Rattle.txg_sync.specs.Writing.{group_places, Stores, HoldsSince, StoresParts};

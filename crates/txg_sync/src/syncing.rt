@@ -1,11 +1,12 @@
 ghost use Rattle.std.specs.Prelude.{◌≡◌, ◌≤◌, ◌+◌, ℕ, List, Some, None, length, IfOk, OnOk, OnErr, IsErrOf};
-ghost use Rattle.disk_model.specs.Images.{Image, Stays};
+ghost use Rattle.disk_model.specs.Images.{Image};
+ghost use Rattle.disk_model.specs.DiskLaws.{Stays};
 ghost use Rattle.disk_model.specs.Crashes.{LeavesOnly, NothingPending};
 ghost use Rattle.disk_model.specs.Faults.{Rose};
 ghost use Rattle.pool_model.specs.Group.{Standing};
 ghost use Rattle.pool_model.specs.declared.faults.SyncFault.TheVariants.{ReadFault, WriteFault, GateFault, Damaged, Memory};
 ghost use Rattle.table_state.specs.Closing.{closed_of, records_after, pages_of, IsInRange, CanSyncOver};
-ghost use Rattle.table_state.specs.Holding.{StandsOver};
+ghost use Rattle.table_state.specs.Over.{StandsOver};
 ghost use Rattle.table_state.specs.SealForms.{last_group};
 ghost use Rattle.table_state.specs.Sound.{IsSound};
 ghost use Rattle.txg_sync.specs.Syncing.{Syncs, SyncLeaves, BeforeGate, StopsAtGate};

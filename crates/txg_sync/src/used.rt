@@ -1,7 +1,7 @@
 ghost use Rattle.std.specs.Prelude.{◌≡◌, ◌≤◌, IfOk, map};
 ghost use Rattle.std.specs.List.{AllByRecursion};
 ghost use Rattle.ddt_entry.specs.Changes.{key_in};
-ghost use Rattle.ddt_entry.specs.Records.{IsKeyLength};
+ghost use Rattle.ddt_entry.specs.Spelling.{IsKeyLength};
 ghost use Rattle.grant_book.specs.Sectors.{marked};
 ghost use Rattle.txg_sync.specs.Placing.{AreUsed};
 

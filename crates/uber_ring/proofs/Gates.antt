@@ -4,7 +4,8 @@ use Rattle.std.specs.Str.{bytes_eq}
 use Rattle.std.proofs.lemmas.List.{take-replicate, length-append}
 use Rattle.ddt_entry.specs.Bytes.{zeros}
 use Rattle.ddt_entry.proofs.Bytes.{length-zeros}
-use Rattle.uber_ring.specs.Seals.{open_text, is_open, open_gate, closed_gate}
+use Rattle.uber_ring.specs.Seals.{open_text, is_open}
+use Rattle.uber_ring.specs.Spelling.{open_gate, closed_gate}
 
 pub opens : is_open open_gate ≡ true
 unfolding is_open open_gate

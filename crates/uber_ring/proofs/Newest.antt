@@ -5,7 +5,8 @@ use Rattle.std.proofs.lemmas.Bool.{cases_eq}
 use Rattle.std.proofs.lemmas.Bool.Decides.{nat_tests, eqb_tells}
 use Rattle.disk_model.specs.Images.{Image, sector_at}
 use Rattle.uber_ring.specs.Seals.{is_body, seal_in, body_seal}
-use Rattle.uber_ring.specs.Ring.{slot_count, slot_of, fewest_sectors, body_sector, gate_is_open, behind, seal_at, higher, highest, newest, SameElsewhere}
+use Rattle.uber_ring.specs.Ring.{slot_count, fewest_sectors, body_sector, gate_is_open, behind, seal_at, higher, highest, newest}
+use Rattle.uber_ring.specs.RingWrites.{slot_of, SameElsewhere}
 use Rattle.uber_ring.specs.declared.seal.Seal.{Seal}
 
 same_seal : (a b : Seal) → Some a ≡ Some b → a ≡ b

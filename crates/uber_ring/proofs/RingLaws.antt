@@ -2,10 +2,12 @@
 use Rattle.std.proofs.Common.{◌≡◌, ◌≢◌, ◌⊎◌, ℕ, zero, suc, ◌<◌, Bool, true, false, Option, None, length, refl, ◌∙◌, ap, inl, inr, ⊎_elim, arith}
 use Rattle.std.specs.Prelude.{List, nat_le, if◌then◌else◌}
 use Rattle.std.proofs.lemmas.Bool.Decides.{nat_tests}
-use Rattle.disk_model.specs.Images.{Image, IsImage, Torn, sector_at}
+use Rattle.disk_model.specs.Images.{Image, sector_at}
+use Rattle.disk_model.specs.DiskLaws.{IsImage, Torn}
 use Rattle.disk_model.proofs.Sectors.{Torn-same}
 use Rattle.uber_ring.specs.Seals.{is_open, body_seal}
-use Rattle.uber_ring.specs.Ring.{slot_count, fewest_sectors, gate_sector, body_sector, gate_is_open, behind, seal_at, higher, highest, newest, SameElsewhere, GateTorn, BodyTorn}
+use Rattle.uber_ring.specs.Ring.{slot_count, fewest_sectors, gate_sector, body_sector, gate_is_open, behind, seal_at, higher, highest, newest}
+use Rattle.uber_ring.specs.RingWrites.{SameElsewhere, GateTorn, BodyTorn}
 use Rattle.uber_ring.specs.declared.seal.Seal.{Seal}
 
 -- what stands behind a gate hangs on the body alone

@@ -1,9 +1,9 @@
 -- Laws of seals: a seal that fits is read back from its body, and a body whose left out bytes are zeros
 -- is the one of the seal that it holds.
-use Rattle.std.proofs.Common.{◌≡◌, ℕ, ◌<◌, ◌%◌, Bool, true, false, ◌&&◌, Some, List, [], ◌∷◌, ◌++◌, length, take, drop, get_or, map, refl, sym, ap, ◌∙◌, append_assoc, arith}
+use Rattle.std.proofs.Common.{◌≡◌, ℕ, ◌<◌, ◌%◌, true, Some, List, [], ◌∷◌, ◌++◌, length, take, drop, get_or, map, refl, sym, ap, ◌∙◌, append_assoc, arith}
 use Rattle.std.specs.List.{concat, flat_map}
 use Rattle.std.specs.Str.{bytes_eq}
-use Rattle.std.proofs.lemmas.Bool.{eq-eqb}
+use Rattle.std.proofs.lemmas.Bool.{eq-eqb, and_parts}
 use Rattle.std.proofs.lemmas.List.{append-nil, length-append, take_all, take_at, drop_at, take-append-drop}
 use Rattle.std.proofs.lemmas.Slice.Eq.{bytes_eq-Decides}
 use Rattle.sha2.specs.Sha256.{sha256}
@@ -11,7 +11,8 @@ use Rattle.ddt_entry.specs.Bytes.{bytes_at, number_at, number_bytes, zeros, AreB
 use Rattle.page_tree.specs.Pointers.{pointer_bytes, pointers_in}
 use Rattle.ddt_entry.proofs.Bytes.{length-number_bytes, length-zeros, length-bytes_at, number_at-is, number_bytes-at_4, number_bytes-at_8, AreBytes-bytes_at}
 use Rattle.page_tree.proofs.PointerLaws.{length-flat_map_pointers, pointers_in-flat_map, flat_map-pointers_in}
-use Rattle.uber_ring.specs.Seals.{FitsSeal, seal_text, seal_in, is_body, body_seal, settings_bytes, state_bytes, pointers_bytes, sums_bytes, signed_bytes, body_bytes}
+use Rattle.uber_ring.specs.Seals.{seal_text, seal_in, is_body, body_seal}
+use Rattle.uber_ring.specs.Spelling.{FitsSeal, settings_bytes, state_bytes, pointers_bytes, sums_bytes, signed_bytes, body_bytes}
 use Rattle.uber_ring.specs.declared.seal.Seal.{Seal}
 use Rattle.uber_ring.proofs.Digests.{length-sha256}
 use Rattle.ddt_entry.proofs.Parts.{offset_of, part_of, cut, concat-cut}
@@ -124,15 +125,11 @@ body_seal-body_bytes seal fits =
 
 -- ---- writing what was read
 
-both_parts : (a b : Bool) → (a && b) ≡ true → (a ≡ true) × (b ≡ true)
-both_parts true b both = (refl, both)
-both_parts false b both = absurd cc
-
 -- what a body begins and ends with
 body_ends : (body : List ℕ) → is_body body ≡ true → (take 8 body ≡ seal_text) × (drop 4064 body ≡ sha256 (take 4064 body))
 unfolding is_body
 body_ends body whole =
-    let both = both_parts (bytes_eq (take 8 body) seal_text) (bytes_eq (drop 4064 body) (sha256 (take 4064 body))) whole in
+    let both = and_parts (bytes_eq (take 8 body) seal_text) (bytes_eq (drop 4064 body) (sha256 (take 4064 body))) whole in
     ((bytes_eq-Decides (take 8 body) seal_text).0 both.0, (bytes_eq-Decides (drop 4064 body) (sha256 (take 4064 body))).0 both.1)
 
 pointers_again : (body : List ℕ) → AreBytes body → length body ≡ 4096 → flat_map pointer_bytes (pointers_in 6 (bytes_at 240 128 body)) ≡ bytes_at 240 128 body

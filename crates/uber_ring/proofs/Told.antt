@@ -1,10 +1,11 @@
 -- What reads tell of the ring, where the disk tells its contents.
-use Rattle.std.proofs.Common.{◌≡◌, ℕ, suc, ◌<◌, ◌≤◌, ◌+◌, Bool, true, false, Option, Some, None, length, refl, sym, ◌∙◌, ap, arith}
+use Rattle.std.proofs.Common.{◌≡◌, ℕ, ◌<◌, ◌≤◌, Bool, true, false, Option, Some, None, length, sym, ◌∙◌, ap, arith}
 use Rattle.std.specs.Prelude.{List, IfSome, nat_le, if◌then◌else◌}
 use Rattle.std.proofs.lemmas.Bool.Decides.{nat_tests}
-use Rattle.disk_model.specs.Images.{Image, TellsImage, Gives, sector_at}
+use Rattle.disk_model.specs.Images.{Image, sector_at}
+use Rattle.disk_model.specs.DiskLaws.{TellsImage, Gives}
 use Rattle.uber_ring.specs.Seals.{body_seal}
-use Rattle.uber_ring.specs.Ring.{slot_count, fewest_sectors, body_sector, gate_is_open, behind, seal_at, higher, highest, newest}
+use Rattle.uber_ring.specs.Ring.{slot_count, fewest_sectors, body_sector, gate_is_open, behind, seal_at, highest, newest}
 use Rattle.uber_ring.specs.declared.seal.Seal.{Seal}
 use Rattle.uber_ring.proofs.RingLaws.{seal_at-closed, seal_at-open, newest_small}
 
@@ -31,26 +32,10 @@ module _ (version slot : ℕ) where
       ∙ sym (behind-large image (omega (arith, large, is.count)))
       ∙ sym (seal_at-open version slot image (sym gate ∙ shown))
 
--- one slot more
-pub told_higher : (version count : ℕ) (told : Option Image) (best seal : Option Seal) → IfSome told (λ image. best ≡ highest (seal_at version image) count) → IfSome told (λ image. seal ≡ seal_at version image count)
-    → IfSome told (λ image. higher best seal ≡ highest (seal_at version image) (count + 1))
-told_higher version count None best seal so_far here = tt
-told_higher version count (Some image) best seal so_far here =
-    ap (λ (b : Option Seal). higher b seal) so_far
-    ∙ ap (λ (s : Option Seal). higher (highest (seal_at version image) count) s) here
-    ∙ ap (highest (seal_at version image)) one_more
-  where
-    one_more : suc count ≡ count + 1
-    one_more = omega arith
-
 pub told_all : (version : ℕ) (told : Option Image) (best : Option Seal) → IfSome told (λ image. best ≡ highest (seal_at version image) slot_count) → IfSome told (λ image. best ≡ newest version image)
 unfolding newest
 told_all version None best all = tt
 told_all version (Some image) best all = all
-
-pub told_first : (version : ℕ) (told : Option Image) → IfSome told (λ image. None ≡ highest (seal_at version image) 0)
-told_first version None = tt
-told_first version (Some image) = refl
 
 -- too small for a pool
 pub told_small : (version sectors : ℕ) (told : Option Image) → TellsImage sectors told → sectors < fewest_sectors → IfSome told (λ image. None ≡ newest version image)

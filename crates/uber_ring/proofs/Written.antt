@@ -2,10 +2,13 @@
 use Rattle.std.proofs.Common.{◌≡◌, ℕ, ◌<◌, ◌≤◌, true, false, Some, length, ◌∙◌, ap, arith, mod-lt}
 use Rattle.std.specs.Prelude.{List, slice_set}
 use Rattle.std.proofs.lemmas.List.{length-set}
-use Rattle.disk_model.specs.Images.{Image, IsImage}
+use Rattle.disk_model.specs.Images.{Image}
+use Rattle.disk_model.specs.DiskLaws.{IsImage}
 use Rattle.disk_model.proofs.Sectors.{sector_at-set, sector_at-set_other}
-use Rattle.uber_ring.specs.Seals.{FitsSeal, body_bytes, body_seal, is_open, open_gate, closed_gate}
-use Rattle.uber_ring.specs.Ring.{ring_sectors, slot_count, fewest_sectors, slot_of, gate_sector, body_sector, gate_is_open, behind}
+use Rattle.uber_ring.specs.Seals.{body_seal, is_open}
+use Rattle.uber_ring.specs.Spelling.{FitsSeal, body_bytes, open_gate, closed_gate}
+use Rattle.uber_ring.specs.Ring.{slot_count, fewest_sectors, gate_sector, body_sector, gate_is_open, behind}
+use Rattle.uber_ring.specs.RingWrites.{ring_sectors, slot_of}
 use Rattle.uber_ring.specs.declared.seal.Seal.{Seal}
 use Rattle.uber_ring.proofs.RingLaws.{behind-same}
 use Rattle.uber_ring.proofs.Told.{behind-large}

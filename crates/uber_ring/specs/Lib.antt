@@ -1,2 +1,4 @@
 pub mod Ring
 pub mod Seals
+pub mod Spelling
+pub mod RingWrites

@@ -1,9 +1,9 @@
-ghost use Rattle.std.specs.Prelude.{◌≡◌, ◌%◌, ◌≤◌, ℕ, List, true, length, take, drop};
+ghost use Rattle.std.specs.Prelude.{◌≡◌, ◌%◌, ◌≤◌, length, take, drop};
 ghost use Rattle.std.specs.Str.{bytes_eq};
 ghost use Rattle.sha2.specs.Sha256.{sha256};
-ghost use Rattle.ddt_entry.specs.Bytes.{AreBytes, bytes_at, zeros};
 ghost use Rattle.page_tree.specs.Pointers.{pointers_in};
-ghost use Rattle.uber_ring.specs.Seals.{FitsSeal, body_bytes, body_seal, is_body, pointers_bytes, seal_in, seal_text, settings_bytes, signed_bytes, state_bytes, sums_bytes};
+ghost use Rattle.uber_ring.specs.Seals.{body_seal, is_body, seal_in, seal_text};
+ghost use Rattle.uber_ring.specs.Spelling.{body_bytes, pointers_bytes, settings_bytes, signed_bytes, state_bytes, sums_bytes};
 ghost use Rattle.uber_ring.specs.declared.seal.Seal.{Seal};
 
 use crate::seal::Seal;
@@ -20,7 +20,7 @@ const SEAL_TEXT: [u8; 8] = *b"DDTSEAL1";
 const SIGNED: usize = 4064;
 
 /// The settings of the pool.
-#[tactic(auto, unfolding(crate::specs::Seals::settings_bytes))]
+#[tactic(auto, unfolding(crate::specs::Spelling::settings_bytes))]
 fn settings_of(seal: &Seal) -> [u8; 64]
     ensures { result ≡ settings_bytes seal.now }
 {
@@ -38,7 +38,7 @@ fn settings_of(seal: &Seal) -> [u8; 64]
 }
 
 /// The state of the table's logs.
-#[tactic(auto, unfolding(crate::specs::Seals::state_bytes))]
+#[tactic(auto, unfolding(crate::specs::Spelling::state_bytes))]
 fn state_of(seal: &Seal) -> [u8; 64]
     ensures { result ≡ state_bytes seal.now }
 {
@@ -64,7 +64,7 @@ fn pointers_of(seal: &Seal) -> [u8; 240]
 }
 
 /// The sums.
-#[tactic(auto, unfolding(crate::specs::Seals::sums_bytes))]
+#[tactic(auto, unfolding(crate::specs::Spelling::sums_bytes))]
 fn sums_of(seal: &Seal) -> [u8; 24]
     ensures { result ≡ sums_bytes seal.now }
 {
@@ -76,7 +76,7 @@ fn sums_of(seal: &Seal) -> [u8; 24]
 }
 
 /// All that a body's digest is of.
-#[tactic(auto, unfolding(crate::specs::Seals::signed_bytes))]
+#[tactic(auto, unfolding(crate::specs::Spelling::signed_bytes))]
 fn signed_of(seal: &Seal) -> [u8; 4064]
     ensures { result ≡ signed_bytes seal.now }
 {
@@ -90,7 +90,7 @@ fn signed_of(seal: &Seal) -> [u8; 4064]
 }
 
 /// The body of a seal.
-#[tactic(auto, unfolding(crate::specs::Seals::body_bytes))]
+#[tactic(auto, unfolding(crate::specs::Spelling::body_bytes))]
 pub(crate) fn body_of(seal: &Seal) -> [u8; 4096]
     ensures { result ≡ body_bytes seal.now }
 {
@@ -182,16 +182,3 @@ pub(crate) fn seal_of(body: &[u8; 4096], version: u32, slot: u32) -> Option<Seal
     }
     Some(seal)
 }
-
-/// A seal is read back from its body, by its version and in its group's slot. A body fills a sector.
-pub fn seal_is_read_back()
-    ensures len { (seal : Seal) → FitsSeal seal → length (body_bytes seal) ≡ 4096 }
-    ensures back { (seal : Seal) → FitsSeal seal →
-        body_seal seal.version (seal.group % 16) (body_bytes seal) ≡ Some seal }
-{}
-
-/// A body whose left out bytes are zeros is the one that is written of the seal that it holds.
-pub fn body_is_spelled_again()
-    ensures { (body : List ℕ) → AreBytes body → length body ≡ 4096 → is_body body ≡ true →
-        bytes_at 4 44 body ≡ zeros 4 → bytes_at 3672 392 body ≡ zeros 3672 → body_bytes (seal_in body) ≡ body }
-{}

@@ -1,5 +1,6 @@
-ghost use Rattle.std.specs.Prelude.{◌≡◌, true, false, length};
-ghost use Rattle.uber_ring.specs.Seals.{is_open, open_gate, closed_gate};
+ghost use Rattle.std.specs.Prelude.{◌≡◌};
+ghost use Rattle.uber_ring.specs.Seals.{is_open};
+ghost use Rattle.uber_ring.specs.Spelling.{open_gate, closed_gate};
 
 use arrayvec::ArrayVec;
 use page_tree::front::{full_array, pad_to, put};
@@ -16,7 +17,7 @@ pub(crate) fn is_gate_open(gate: &[u8; 4096]) -> bool
 }
 
 /// What an open gate is written as.
-#[tactic(auto, unfolding(crate::specs::Seals::open_gate))]
+#[tactic(auto, unfolding(crate::specs::Spelling::open_gate))]
 pub(crate) fn open_gate_bytes() -> [u8; 4096]
     ensures { result ≡ open_gate }
 {
@@ -27,7 +28,7 @@ pub(crate) fn open_gate_bytes() -> [u8; 4096]
 }
 
 /// What a closed gate is written as.
-#[tactic(auto, unfolding(crate::specs::Seals::closed_gate))]
+#[tactic(auto, unfolding(crate::specs::Spelling::closed_gate))]
 pub(crate) fn closed_gate_bytes() -> [u8; 4096]
     ensures { result ≡ closed_gate }
 {
@@ -35,11 +36,3 @@ pub(crate) fn closed_gate_bytes() -> [u8; 4096]
     pad_to(&mut front, 4096);
     full_array(front)
 }
-
-/// What is written to open a gate opens it, and what is written to close it doesn't.
-pub fn gates_are_told_apart()
-    ensures opens { is_open open_gate ≡ true }
-    ensures closes { is_open closed_gate ≡ false }
-    ensures open_len { length open_gate ≡ 4096 }
-    ensures closed_len { length closed_gate ≡ 4096 }
-{}

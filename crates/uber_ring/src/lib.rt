@@ -8,18 +8,20 @@
 //!
 //! A gate is a sector that is open exactly where its first 8 bytes say so, and whatever is behind them.
 //!
-//! What a seal's bytes are is written down in `specs/Seals.antt`. The laws below say that a seal is
-//! read back from its body. Nothing here takes memory.
+//! What a body says is written down in `specs/Seals.antt`, how one is spelled in `specs/Spelling.antt`, and
+//! which seal counts in `specs/Ring.antt`. Laws of `proofs/` tie them: a seal is read back from its body, by
+//! its version and in its group's slot, and a body is spelled again, `SealLaws.{length-body_bytes,
+//! body_seal-body_bytes, body_bytes-seal_in}`; what is written to open a gate opens it, and what is written
+//! to close it doesn't, `Gates.{opens, closes, length-open_gate, length-closed_gate}`; the seal that counts
+//! is valid and no valid one is higher, `Newest.{newest_valid, newest_highest}`; and which seal counts once
+//! one slot has changed, `Newest.{newest_stays, newest_becomes, newest_begins, newest_none}`.
+//! Nothing here takes memory.
 #![tactic(auto)]
 
 mod body;
 mod gate;
-mod laws;
 mod ring;
 mod seal;
 
-pub use body::{body_is_spelled_again, seal_is_read_back};
-pub use gate::gates_are_told_apart;
-pub use laws::{newest_is_the_highest, one_slot_changes};
 pub use ring::{FEWEST_SECTORS, SLOTS, close_slot, find, gate_open, open_slot, write_body};
 pub use seal::{Seal, seal_fits};

@@ -1,10 +1,11 @@
 ghost use Rattle.std.specs.Prelude.{◌≡◌, ◌≤◌, ◌<◌, ◌%◌, ◌*◌, ◌+◌, ℕ, Option, IfOk, IfSome, OnOk, OnErr};
-ghost use Rattle.disk_model.specs.Images.{Holds, MayTouch, TellsImage};
+ghost use Rattle.disk_model.specs.DiskLaws.{Holds, MayTouch, TellsImage};
 ghost use Rattle.disk_model.specs.Crashes.{LeavesOnly, NothingPending};
 ghost use Rattle.disk_model.specs.Accounts.{Accounts};
 ghost use Rattle.disk_model.specs.Faults.{HasCause};
-ghost use Rattle.uber_ring.specs.Seals.{body_bytes, open_gate};
-ghost use Rattle.uber_ring.specs.Ring.{slot_of, gate_sector, body_sector, gate_is_open, seal_at, higher, newest, ClosingLeaves, OpeningLeaves, WritingLeaves, Closes, MayClose};
+ghost use Rattle.uber_ring.specs.Spelling.{body_bytes, open_gate};
+ghost use Rattle.uber_ring.specs.Ring.{gate_sector, body_sector, gate_is_open, seal_at, higher, newest};
+ghost use Rattle.uber_ring.specs.RingWrites.{slot_of, ClosingLeaves, OpeningLeaves, WritingLeaves, Closes, MayClose};
 
 use crate::body::{body_of, seal_of};
 use crate::gate::{closed_gate_bytes, is_gate_open, open_gate_bytes};

@@ -1,4 +1,4 @@
-ghost use Rattle.uber_ring.specs.Seals.{FitsSeal};
+ghost use Rattle.uber_ring.specs.Spelling.{FitsSeal};
 
 use page_tree::{PagePtr, pointers_fit};
 

@@ -1,7 +1,7 @@
 -- The blocks in their plain form.
 use Rattle.std.proofs.Common.{◌≤◌, ◌<◌, List, [], ◌∷◌, length, map}
 use Rattle.std.specs.List.{AllByRecursion}
-use Rattle.pool_model.specs.Plain.{stored_of}
+use Rattle.pool_model.specs.Mirrors.{stored_of}
 use Rattle.image_tests.proofs.in_range.blocks_within.Goals as goal
 
 -- what holds of the form of each item holds of each item's form

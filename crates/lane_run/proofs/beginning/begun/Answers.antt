@@ -2,7 +2,7 @@ use Rattle.std.proofs.Common.{◌≡◌, ◌∙◌, Bool, List, length, map, sym
 use Rattle.std.proofs.lemmas.List.{length-map}
 use Rattle.std.proofs.lemmas.Bool.{eqb-true}
 use Rattle.grant_book.specs.Sectors.{AreFirstFree}
-use Rattle.pool_model.specs.Plain.{task_of}
+use Rattle.pool_model.specs.Mirrors.{task_of}
 use Rattle.lane_run.specs.Going.{HasRun}
 use Rattle.table_state.specs.Pools.{Held}
 use Rattle.table_state.specs.Closing.{IsInRange}

@@ -2,7 +2,7 @@ use Rattle.std.proofs.Common.{◌≡◌, ◌==◌, ◌≤◌, Some, None, map, l
 use Rattle.std.specs.Option.{option_map}
 use Rattle.disk_model.specs.Images.{sector_at}
 use Rattle.pool_model.specs.declared.closed.StoredBlock.{StoredBlock}
-use Rattle.pool_model.specs.Plain.{Stored, stored_of}
+use Rattle.pool_model.specs.Mirrors.{Stored, stored_of}
 use Rattle.lane_run.specs.Live.{sector_or}
 use Rattle.lane_run.proofs.Stored.{find-stored, found_has}
 use Rattle.lane_run.proofs.block.sector_at.Goals as goal

@@ -1,6 +1,6 @@
 use Rattle.std.proofs.Common.{◌≡◌, ◌∙◌, Option, Some, None, length, take, map, refl, sym, ap, arith}
 use Rattle.ddt_entry.specs.declared.key.Key.{Key}
-use Rattle.pool_model.specs.Plain.{stored_of}
+use Rattle.pool_model.specs.Mirrors.{stored_of}
 use Rattle.pool_model.specs.Command.{Known}
 use Rattle.home_rules.specs.Rows.{row_of}
 use Rattle.lane_run.specs.Live.{sector_here, known_by}

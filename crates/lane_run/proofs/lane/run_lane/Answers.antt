@@ -1,6 +1,6 @@
 use Rattle.std.proofs.Common.{◌≡◌, ◌<◌, ℕ, length, get_or, sym, subst, ap, ◌∙◌, arith}
 use Rattle.std.proofs.lemmas.List.{length-map}
-use Rattle.pool_model.specs.Plain.{task_of, stored_of}
+use Rattle.pool_model.specs.Mirrors.{task_of, stored_of}
 use Rattle.lane_run.specs.Groups.{IsFirstWrite}
 use Rattle.lane_run.specs.Live.{Live}
 use Rattle.lane_run.proofs.Lanes.{lane_opened, lane_push, lane_done, at_index, at_default}

@@ -4,7 +4,8 @@ use Rattle.std.specs.List.{count_by}
 use Rattle.std.proofs.lemmas.List.{length-map}
 use Rattle.ddt_entry.specs.Keys.{Keying}
 use Rattle.pool_model.specs.declared.commands.Command.{Command}
-use Rattle.pool_model.specs.Plain.{Task, Told, task_of, told_of}
+use Rattle.pool_model.specs.Plain.{Task, Told, told_of}
+use Rattle.pool_model.specs.Mirrors.{task_of}
 use Rattle.pool_model.specs.Group.{lanes_in_turn}
 use Rattle.pool_model.specs.Table.{flush_limit}
 use Rattle.lane_run.specs.Groups.{IsRunFrom}

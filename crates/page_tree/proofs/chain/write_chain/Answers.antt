@@ -2,7 +2,8 @@
 use Rattle.std.proofs.Common.{◌≡◌, ◌<◌, ◌+◌, ◌-◌, ◌*◌, length, take, drop, ap, ◌∙◌, arith}
 use Rattle.std.proofs.lemmas.List.{take_min}
 use Rattle.disk_model.proofs.Moments.{and_then, weakened, at_end, keeps_on}
-use Rattle.page_tree.specs.Chains.{ChainLeaves, page_records}
+use Rattle.page_tree.specs.Chains.{page_records}
+use Rattle.page_tree.specs.ChainWrites.{ChainLeaves}
 use Rattle.page_tree.proofs.Chaining.{touched_last, touched_more, leaves_more, chain_step}
 use Rattle.page_tree.proofs.chain.write_chain.Goals as goal
 

@@ -2,7 +2,8 @@ use Rattle.std.proofs.Common.{◌≤◌, ◌*◌, length, drop}
 use Rattle.disk_model.specs.Images.{Image}
 use Rattle.disk_model.specs.Crashes.{LeavesOnly}
 use Rattle.disk_model.specs.Accounts.{Keeps}
-use Rattle.page_tree.specs.Chains.{chain_of, page_records, MayTouchAll, ChainLeaves}
+use Rattle.page_tree.specs.Chains.{page_records}
+use Rattle.page_tree.specs.ChainWrites.{chain_of, MayTouchAll, ChainLeaves}
 use Rattle.page_tree.proofs.Chaining.{HasWritten}
 use Rattle.page_tree.proofs.chain.write_chain.Given as goal
 

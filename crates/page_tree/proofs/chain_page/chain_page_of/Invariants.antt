@@ -1,7 +1,7 @@
 use Rattle.std.proofs.Common.{◌≡◌, ◌+◌, ◌*◌, ◌++◌, drop}
 use Rattle.std.specs.List.{concat}
 use Rattle.arrayvec.specs.ArrayVec.{array_vec_len}
-use Rattle.page_tree.specs.Chains.{chain_head}
+use Rattle.page_tree.specs.ChainWrites.{chain_head}
 use Rattle.page_tree.proofs.chain_page.chain_page_of.Given as goal
 
 abbrev pub invariant-records : goal.invariant-records

@@ -1,6 +1,7 @@
 use Rattle.pool_model.specs.Pool.{comes_before}
-use Rattle.plain_pool.proofs.Insertions.{insert_pointer-insert, unwrap_or-position}
+use Rattle.plain_pool.proofs.Insertions.{insert_pointer-insert}
 use Rattle.plain_pool.proofs.pool.insert_pointer.Goals as goal
+use Rattle.pool_model.proofs.Loops.{unwrap_or-position}
 
 pub returns : goal.returns
 returns c =

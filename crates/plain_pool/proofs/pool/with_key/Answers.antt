@@ -1,7 +1,8 @@
 use Rattle.std.proofs.Common.{◌≡◌, true, false, sym, slice_get, unwrap_or, position, length}
 use Rattle.std.specs.List.{position_or_len}
-use Rattle.plain_pool.proofs.Insertions.{from, stands_at, unwrap_or-position, with_key-at, with_key-same}
+use Rattle.plain_pool.proofs.Insertions.{from, stands_at, with_key-at, with_key-same}
 use Rattle.plain_pool.proofs.pool.with_key.Goals as goal
+use Rattle.pool_model.proofs.Loops.{unwrap_or-position}
 
 pub returns-then-has_at : goal.returns-then-has_at
 returns-then-has_at c =

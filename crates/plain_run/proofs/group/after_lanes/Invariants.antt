@@ -1,7 +1,8 @@
 use Rattle.std.proofs.Common.{◌≡◌, List, drop, fold, map}
 use Rattle.std.specs.List.{flat_map}
 use Rattle.pool_model.specs.declared.notes.LaneNote.{LaneNote}
-use Rattle.pool_model.specs.Plain.{task_of, lane_told}
+use Rattle.pool_model.specs.Plain.{lane_told}
+use Rattle.pool_model.specs.Mirrors.{task_of}
 use Rattle.pool_model.specs.Command.{after}
 use Rattle.pool_model.specs.Group.{turns_of}
 use Rattle.plain_run.specs.Openings.{opening_by}

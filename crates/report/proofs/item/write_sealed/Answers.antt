@@ -1,6 +1,7 @@
 use Rattle.std.proofs.Common.{map}
 use Rattle.std.specs.List.{flat_map}
-use Rattle.pool_model.specs.Plain.{task_of, lane_told}
+use Rattle.pool_model.specs.Plain.{lane_told}
+use Rattle.pool_model.specs.Mirrors.{task_of}
 use Rattle.pool_model.specs.Text.{lane_text}
 use Rattle.report.proofs.Written.{Wrote-failed, Wrote-longer, Wrote-then}
 use Rattle.report.proofs.item.write_sealed.Goals as goal

@@ -1,5 +1,5 @@
 use Rattle.std.proofs.Common.{map}
-use Rattle.pool_model.specs.Plain.{task_of}
+use Rattle.pool_model.specs.Mirrors.{task_of}
 use Rattle.report.proofs.LaneLemmas.{lanes-splits}
 use Rattle.report.proofs.Written.{Remains-cut, Remains-more}
 use Rattle.report.proofs.lanes.write_lanes.Goals as goal

@@ -1,7 +1,8 @@
 -- The lanes so far were written.
 use Rattle.std.proofs.Common.{drop, map}
 use Rattle.std.specs.List.{flat_map}
-use Rattle.pool_model.specs.Plain.{task_of, lane_told}
+use Rattle.pool_model.specs.Plain.{lane_told}
+use Rattle.pool_model.specs.Mirrors.{task_of}
 use Rattle.pool_model.specs.Text.{lane_text}
 use Rattle.report.proofs.Written.{Remains}
 use Rattle.report.proofs.lanes.write_lanes.Given as goal

@@ -1,7 +1,8 @@
 -- A group of an item is done, or the session ends in it.
 use Rattle.std.proofs.Common.{◌≡◌, ◌∙◌, ⊎_elim, true, Err, [], ◌∷◌, refl, ap, subst, sym, map}
 use Rattle.pool_model.specs.Group.{lanes_in_turn}
-use Rattle.pool_model.specs.Plain.{Part, lanes, task_of, told_of}
+use Rattle.pool_model.specs.Plain.{Part, lanes, told_of}
+use Rattle.pool_model.specs.Mirrors.{task_of}
 use Rattle.table_state.specs.Pools.{Held}
 use Rattle.txg_sync.proofs.Stored.{on_ok}
 use Rattle.session.specs.Devices.{between}

@@ -1,8 +1,10 @@
 -- A group is run and sealed, or refused.
 use Rattle.std.proofs.Common.{◌+◌, ◌∙◌, Err, List, ap, map, subst, Option}
-use Rattle.disk_model.specs.Images.{Image, Stays}
+use Rattle.disk_model.specs.Images.{Image}
+use Rattle.disk_model.specs.DiskLaws.{Stays}
 use Rattle.pool_model.specs.declared.notes.LaneNote.{LaneNote}
-use Rattle.pool_model.specs.Plain.{lane_told, task_of, told_of}
+use Rattle.pool_model.specs.Plain.{lane_told, told_of}
+use Rattle.pool_model.specs.Mirrors.{task_of}
 use Rattle.table_state.specs.Closing.{closed_of}
 use Rattle.session.specs.StageGroups.{outcome_by}
 use Rattle.session.proofs.Sealing.{can_over}

@@ -1,6 +1,6 @@
 -- A crash leaves what stood or the new pool, by the stages of its seal.
 use Rattle.std.proofs.Common.{Err, ap, subst, sym, ◌∙◌}
-use Rattle.disk_model.specs.Images.{TellsImage}
+use Rattle.disk_model.specs.DiskLaws.{TellsImage}
 use Rattle.session.specs.StageMaking.{IsNotMade}
 use Rattle.session.proofs.Made.{new_pool, not_made, told_unmade}
 use Rattle.session.proofs.making.seal_empty_pool.Goals as goal

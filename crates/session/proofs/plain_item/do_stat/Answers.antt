@@ -4,7 +4,7 @@ use Rattle.std.proofs.KnownBytes.{Keeps-refl}
 use Rattle.disk_model.proofs.Moments.{started}
 use Rattle.pool_model.specs.declared.commands.Item.{Item}
 use Rattle.pool_model.specs.Group.{lanes_in_turn}
-use Rattle.pool_model.specs.Plain.{part_of}
+use Rattle.pool_model.specs.Mirrors.{part_of}
 use Rattle.table_state.specs.Pools.{Held}
 use Rattle.session.specs.Devices.{between}
 use Rattle.session.specs.declared.status.Status.TheVariants.{OutOfMemory, SinkFault}

@@ -2,7 +2,8 @@ use Rattle.std.proofs.Common.{◌≡◌, List, ◌∷◌, ◌++◌, map, take, d
 use Rattle.std.proofs.lemmas.List.{take_all}
 use Rattle.cmd_file.specs.Items.{IsItem}
 use Rattle.pool_model.specs.Group.{Rules, lanes_in_turn}
-use Rattle.pool_model.specs.Plain.{Part, part_of}
+use Rattle.pool_model.specs.Plain.{Part}
+use Rattle.pool_model.specs.Mirrors.{part_of}
 use Rattle.lane_run.proofs.Lanes.{at_index}
 use Rattle.session.specs.Devices.{Devices, between}
 use Rattle.session.specs.StageGoing.{GoesOn, StopsIn}

@@ -1,6 +1,6 @@
 use Rattle.std.proofs.Common.{refl, ap, ◌∙◌, inl, inr, map, Err}
 use Rattle.pool_model.specs.Group.{lanes_in_turn}
-use Rattle.pool_model.specs.Plain.{part_of}
+use Rattle.pool_model.specs.Mirrors.{part_of}
 use Rattle.session.specs.Devices.{between}
 use Rattle.session.specs.Running.{faults_in}
 use Rattle.session.specs.declared.status.Status.TheVariants.{OutOfMemory}

@@ -1,5 +1,5 @@
 use Rattle.std.proofs.Common.{◌≡◌, map, ◌-◌, ◌≤◌, length, take}
-use Rattle.ddt_entry.specs.Records.{record_bytes}
+use Rattle.ddt_entry.specs.Spelling.{record_bytes}
 use Rattle.txg_sync.proofs.chain_records.change_records.Given as goal
 
 abbrev pub invariant-changes : goal.invariant-changes

@@ -1,5 +1,5 @@
 use Rattle.std.proofs.Common.{◌≡◌, map, ◌-◌, ◌≤◌, length, take}
-use Rattle.table_state.specs.SlotRecords.{slot_bytes}
+use Rattle.table_state.specs.Spelling.{slot_bytes}
 use Rattle.txg_sync.proofs.chain_records.slot_records.Given as goal
 
 abbrev pub invariant-slots : goal.invariant-slots

@@ -1,6 +1,6 @@
 -- The pool in memory is that of a new seal.
 use Rattle.std.proofs.Common.{◌∙◌, ap, sym, subst, rules}
-use Rattle.disk_model.specs.Images.{TellsImage}
+use Rattle.disk_model.specs.DiskLaws.{TellsImage}
 use Rattle.table_state.specs.Pools.{new_held}
 use Rattle.table_state.specs.Sound.{IsSound}
 use Rattle.table_state.proofs.Created.{new_is_sound}

@@ -1,6 +1,7 @@
 -- The body is in its sector, whether or not it lasts.
-use Rattle.uber_ring.specs.Seals.{body_bytes}
-use Rattle.uber_ring.specs.Ring.{body_sector, slot_of}
+use Rattle.uber_ring.specs.Spelling.{body_bytes}
+use Rattle.uber_ring.specs.Ring.{body_sector}
+use Rattle.uber_ring.specs.RingWrites.{slot_of}
 use Rattle.uber_ring.proofs.SealLaws.{length-body_bytes}
 use Rattle.txg_sync.proofs.Sealing.{written_touches}
 use Rattle.txg_sync.proofs.fill.fill_slot.Goals as goal

@@ -1,5 +1,5 @@
 use Rattle.std.specs.List.{AllWithin}
-use Rattle.ddt_entry.specs.Records.{Fits}
+use Rattle.ddt_entry.specs.Spelling.{Fits}
 use Rattle.txg_sync.proofs.fits.changes_fit.Given as goal
 
 abbrev pub invariant-changes : goal.invariant-changes

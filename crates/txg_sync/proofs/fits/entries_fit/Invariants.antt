@@ -1,5 +1,5 @@
 use Rattle.std.specs.List.{AllWithin}
-use Rattle.ddt_entry.specs.Records.{Fits}
+use Rattle.ddt_entry.specs.Spelling.{Fits}
 use Rattle.ddt_entry.specs.declared.entry.Change.TheVariants.{Entry as AnEntry}
 use Rattle.txg_sync.proofs.fits.entries_fit.Given as goal
 

@@ -1,5 +1,5 @@
 use Rattle.std.specs.List.{AllWithin}
-use Rattle.table_state.specs.SlotRecords.{FitsSlot}
+use Rattle.table_state.specs.Spelling.{FitsSlot}
 use Rattle.txg_sync.proofs.fits.slots_fit.Given as goal
 
 abbrev pub invariant-slots : goal.invariant-slots

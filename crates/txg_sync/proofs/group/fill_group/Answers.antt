@@ -1,9 +1,9 @@
 -- Each stage leaves the seal that counted.
 use Rattle.std.proofs.Common.{◌∙◌, ℕ, map, refl, subst}
-use Rattle.disk_model.specs.Images.{TellsImage}
+use Rattle.disk_model.specs.DiskLaws.{TellsImage}
 use Rattle.disk_model.proofs.Moments.{at_end}
-use Rattle.page_tree.specs.Chains.{ChainLeaves}
-use Rattle.pool_model.specs.Plain.{stored_of}
+use Rattle.page_tree.specs.ChainWrites.{ChainLeaves}
+use Rattle.pool_model.specs.Mirrors.{stored_of}
 use Rattle.txg_sync.specs.Writing.{group_places}
 use Rattle.txg_sync.proofs.Groups.{group_behind, group_within, rooted_is, fills_of, group_taking, group_storing, group_filling}
 use Rattle.txg_sync.proofs.group.fill_group.Goals as goal

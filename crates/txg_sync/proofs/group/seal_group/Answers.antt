@@ -1,7 +1,7 @@
 -- Until the gate is written the seal that counted is left, and then that one or the new one.
 use Rattle.std.proofs.Common.{ℕ, map, subst}
-use Rattle.disk_model.specs.Images.{TellsImage}
-use Rattle.pool_model.specs.Plain.{stored_of}
+use Rattle.disk_model.specs.DiskLaws.{TellsImage}
+use Rattle.pool_model.specs.Mirrors.{stored_of}
 use Rattle.txg_sync.proofs.Groups.{group_behind, group_within, seals_of, gate_left, group_unsealed, group_opening}
 use Rattle.txg_sync.proofs.group.seal_group.Goals as goal
 

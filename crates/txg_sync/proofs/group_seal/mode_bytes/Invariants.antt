@@ -1,5 +1,5 @@
 use Rattle.std.proofs.Common.{◌≡◌, length, take, map}
-use Rattle.table_state.specs.SealForms.{mode_byte}
+use Rattle.table_state.specs.Spelling.{mode_byte}
 use Rattle.txg_sync.proofs.group_seal.mode_bytes.Given as goal
 
 abbrev pub invariant-lanes : goal.invariant-lanes

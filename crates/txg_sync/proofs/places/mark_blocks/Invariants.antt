@@ -1,6 +1,6 @@
 use Rattle.std.proofs.Common.{◌≡◌, drop, map}
 use Rattle.grant_book.specs.Sectors.{marked}
-use Rattle.pool_model.specs.Plain.{stored_of}
+use Rattle.pool_model.specs.Mirrors.{stored_of}
 use Rattle.table_state.specs.Closing.{block_places}
 use Rattle.txg_sync.proofs.places.mark_blocks.Given as goal
 

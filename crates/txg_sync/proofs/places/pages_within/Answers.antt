@@ -1,5 +1,5 @@
 use Rattle.std.proofs.Common.{arith, ap}
-use Rattle.page_tree.specs.Chains.{pages_for}
+use Rattle.page_tree.specs.ChainWrites.{pages_for}
 use Rattle.txg_sync.proofs.PlacedParts.{pages_within_all}
 use Rattle.txg_sync.proofs.places.pages_within.Goals as goal
 

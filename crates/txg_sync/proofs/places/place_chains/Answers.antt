@@ -1,6 +1,6 @@
 -- What is placed was free in the copy, in which the blocks are marked.
 use Rattle.std.proofs.Common.{map}
-use Rattle.pool_model.specs.Plain.{stored_of}
+use Rattle.pool_model.specs.Mirrors.{stored_of}
 use Rattle.txg_sync.proofs.PlacedParts.{placed_by_steps}
 use Rattle.txg_sync.proofs.places.place_chains.Goals as goal
 

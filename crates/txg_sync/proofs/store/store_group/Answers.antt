@@ -1,6 +1,6 @@
 -- The blocks first, and then the chains behind them.
 use Rattle.std.proofs.Common.{map}
-use Rattle.pool_model.specs.Plain.{stored_of}
+use Rattle.pool_model.specs.Mirrors.{stored_of}
 use Rattle.txg_sync.proofs.Stored.{on_ok, blocks_touched, all_touched, all_stored, while_blocks, while_chains}
 use Rattle.txg_sync.proofs.store.store_group.Goals as goal
 

@@ -1,10 +1,10 @@
 -- Each block is one of the places, and stands there with those before it.
 use Rattle.std.proofs.Common.{◌∙◌, ℕ, List, map, ap, subst}
-use Rattle.disk_model.specs.Images.{Holds}
+use Rattle.disk_model.specs.DiskLaws.{Holds}
 use Rattle.table_state.specs.Pools.{block_sector}
 use Rattle.disk_model.proofs.Moments.{goes_on, keeps_on}
-use Rattle.page_tree.specs.Chains.{ChainLeaves}
-use Rattle.pool_model.specs.Plain.{stored_of}
+use Rattle.page_tree.specs.ChainWrites.{ChainLeaves}
+use Rattle.pool_model.specs.Mirrors.{stored_of}
 use Rattle.table_state.specs.Closing.{block_places}
 use Rattle.txg_sync.proofs.Storing.{stores_more, block_touched, block_torn, block_leaves}
 use Rattle.txg_sync.proofs.store.write_blocks.Goals as goal

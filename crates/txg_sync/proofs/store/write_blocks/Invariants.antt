@@ -2,8 +2,8 @@ use Rattle.std.proofs.Common.{map, take}
 use Rattle.disk_model.specs.Images.{Image}
 use Rattle.disk_model.specs.Crashes.{LeavesOnly}
 use Rattle.disk_model.specs.Accounts.{Keeps}
-use Rattle.page_tree.specs.Chains.{MayTouchAll, ChainLeaves}
-use Rattle.pool_model.specs.Plain.{stored_of}
+use Rattle.page_tree.specs.ChainWrites.{MayTouchAll, ChainLeaves}
+use Rattle.pool_model.specs.Mirrors.{stored_of}
 use Rattle.table_state.specs.Closing.{block_places}
 use Rattle.txg_sync.specs.Writing.{Stores}
 use Rattle.txg_sync.proofs.store.write_blocks.Given as goal

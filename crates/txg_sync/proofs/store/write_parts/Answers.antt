@@ -1,9 +1,10 @@
 -- Each chain stands beside those before it, at places of its own.
 use Rattle.std.proofs.Common.{◌≡◌, ◌∙◌, ℕ, ◌<◌, List, Option, Some, None, refl, get_or, ap, sym, subst, arith}
 use Rattle.std.specs.List.{AllByRecursion}
-use Rattle.disk_model.specs.Images.{TellsImage}
+use Rattle.disk_model.specs.DiskLaws.{TellsImage}
 use Rattle.disk_model.proofs.Moments.{and_then, weakened, at_end, keeps_on}
-use Rattle.page_tree.specs.Chains.{ChainLeaves, MayTouchAll, Written, chain_of, pointer_or_null}
+use Rattle.page_tree.specs.Chains.{pointer_or_null}
+use Rattle.page_tree.specs.ChainWrites.{ChainLeaves, MayTouchAll, Written, chain_of}
 use Rattle.std.specs.Prelude.{slice_set, unwrap_or}
 use Rattle.page_tree.specs.Pointers.{null_pointer}
 use Rattle.page_tree.specs.declared.pointer.PagePtr.{PagePtr}

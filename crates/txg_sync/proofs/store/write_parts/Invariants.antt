@@ -2,7 +2,7 @@ use Rattle.std.proofs.Common.{◌≡◌, ◌++◌, take, drop}
 use Rattle.disk_model.specs.Images.{Image}
 use Rattle.disk_model.specs.Crashes.{LeavesOnly}
 use Rattle.disk_model.specs.Accounts.{Keeps}
-use Rattle.page_tree.specs.Chains.{MayTouchAll, ChainLeaves}
+use Rattle.page_tree.specs.ChainWrites.{MayTouchAll, ChainLeaves}
 use Rattle.table_state.specs.Sealed.{places_in, roots_of}
 use Rattle.txg_sync.specs.Writing.{HoldsSince}
 use Rattle.txg_sync.proofs.store.write_parts.Given as goal

@@ -1,8 +1,9 @@
 -- What was planned is what is sealed, and the image stands for it.
 use Rattle.std.proofs.Common.{◌≡◌, ◌∙◌, ◌≤◌, ◌<◌, ◌^◌, ℕ, List, Option, length, refl, sym, ap, subst, arith, rules}
 use Rattle.std.specs.Prelude.{[], slice_index_or}
-use Rattle.disk_model.specs.Images.{Image, TellsImage}
-use Rattle.page_tree.specs.Chains.{AreOpen}
+use Rattle.disk_model.specs.Images.{Image}
+use Rattle.disk_model.specs.DiskLaws.{TellsImage}
+use Rattle.page_tree.specs.ChainWrites.{AreOpen}
 use Rattle.pool_model.specs.declared.closed.StoredBlock.{StoredBlock}
 use Rattle.table_state.specs.Pools.{Held}
 use Rattle.table_state.specs.Sealed.{ChainPart, places_in}

@@ -2,7 +2,7 @@
 use Rattle.std.proofs.Common.{◌≡◌, refl, sym, subst}
 use Rattle.std.specs.Prelude.{MatchBool}
 use Rattle.disk_model.proofs.Moments.{by_write, by_write_and_barrier, by_barrier}
-use Rattle.uber_ring.specs.Ring.{GateTorn}
+use Rattle.uber_ring.specs.RingWrites.{GateTorn}
 use Rattle.uber_ring.proofs.RingLaws.{torn_gate, still_gate}
 use Rattle.uber_ring.proofs.ring.close_slot.Goals as goal
 

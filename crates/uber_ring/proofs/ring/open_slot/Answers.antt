@@ -1,6 +1,6 @@
 -- Each moment's outcome is one at the entry, with the gate torn.
 use Rattle.disk_model.proofs.Moments.{by_write, by_write_and_barrier}
-use Rattle.uber_ring.specs.Ring.{GateTorn}
+use Rattle.uber_ring.specs.RingWrites.{GateTorn}
 use Rattle.uber_ring.proofs.RingLaws.{torn_gate, still_gate}
 use Rattle.uber_ring.proofs.ring.open_slot.Goals as goal
 

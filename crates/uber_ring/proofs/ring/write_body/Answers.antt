@@ -1,6 +1,6 @@
 -- Each moment's outcome is one at the entry, with the body torn.
 use Rattle.disk_model.proofs.Moments.{by_write}
-use Rattle.uber_ring.specs.Ring.{BodyTorn, slot_of}
+use Rattle.uber_ring.specs.RingWrites.{BodyTorn, slot_of}
 use Rattle.uber_ring.proofs.RingLaws.{torn_body, still_body}
 use Rattle.uber_ring.proofs.ring.write_body.Goals as goal
 

@@ -1,6 +1,7 @@
 -- The new disk holds from the start what the crash left.
 use Rattle.std.proofs.Common.{◌≡◌, Some, length, ◌∙◌, ap, subst, sym}
-use Rattle.disk_model.specs.Images.{Image, IsImage}
+use Rattle.disk_model.specs.Images.{Image}
+use Rattle.disk_model.specs.DiskLaws.{IsImage}
 use Rattle.disk_model.specs.Crashes.{NothingPending}
 use Rattle.disk_model.specs.Memory.{MemoryDisk, MayBeLeft, contents, cells_of, crash_image, new_disk}
 use Rattle.disk_model.proofs.Kept.{crashed_whole, crashed_left, settled_anew}

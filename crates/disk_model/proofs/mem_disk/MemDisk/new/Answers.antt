@@ -1,6 +1,7 @@
 -- Nothing is pending on a new disk.
 use Rattle.std.proofs.Common.{◌≡◌, [], length, Some, subst, sym}
-use Rattle.disk_model.specs.Images.{Image, IsImage}
+use Rattle.disk_model.specs.Images.{Image}
+use Rattle.disk_model.specs.DiskLaws.{IsImage}
 use Rattle.disk_model.specs.Crashes.{NothingPending}
 use Rattle.disk_model.specs.Memory.{MayBeLeft, MemoryDisk, contents, padded}
 use Rattle.disk_model.proofs.Kept.{IsImage-zeros, settled_anew}

@@ -2,8 +2,7 @@
 use Rattle.std.proofs.Common.{◌≡◌, rules, [], ◌∷◌, ◌++◌, length, ◌∙◌, ap, sym, subst}
 use Rattle.std.specs.Prelude.{slice_set}
 use Rattle.std.proofs.lemmas.List.{length-set}
-use Rattle.disk_model.specs.Images.{Torn}
-use Rattle.disk_model.specs.Crashes.{Follows}
+use Rattle.disk_model.specs.DiskLaws.{Torn, Follows}
 use Rattle.disk_model.specs.Memory.{MemoryDisk, MayBeLeft, MayLeave, IsKept, cells_after, padded}
 use Rattle.disk_model.proofs.Kept.{kept_by_write, left_by_write, elapses_to}
 use Rattle.disk_model.specs.declared.call.Call.TheVariants.{Write}

@@ -1,6 +1,6 @@
 use Rattle.pool_model.specs.Group.{change_of}
 use Rattle.plain_run.specs.Openings.{opening_by}
-use Rattle.plain_run.proofs.Afterwards.{filter_map_more}
+use Rattle.pool_model.proofs.Loops.{filter_map_more}
 use Rattle.plain_run.proofs.course.PlainCourse.changes_of.Goals as goal
 
 pub loop-key-preserved : goal.loop-key-preserved
