@@ -26,13 +26,15 @@ length-bytes_at len offset bytes within = omega (arith, length-take len (drop of
 -- ---- parts
 
 -- a part that stands behind a front
-pub bytes_at-behind : (front part rest : List ℕ) (offset len : ℕ) → length front ≡ offset → length part ≡ len → bytes_at len offset (front ++ (part ++ rest)) ≡ part
+pub bytes_at-behind : (front part rest : List ℕ) (offset len : ℕ) → length front ≡ offset → length part ≡ len
+    → bytes_at len offset (front ++ (part ++ rest)) ≡ part
 unfolding bytes_at
 bytes_at-behind front part rest offset len before here =
     ap (take len) (drop_at front (part ++ rest) offset before) ∙ take_at part rest len here
 
 -- what follows the bytes changes no part of them
-pub bytes_at-front : (len offset : ℕ) (bytes rest : List ℕ) → offset + len ≤ length bytes → bytes_at len offset (bytes ++ rest) ≡ bytes_at len offset bytes
+pub bytes_at-front : (len offset : ℕ) (bytes rest : List ℕ) → offset + len ≤ length bytes
+    → bytes_at len offset (bytes ++ rest) ≡ bytes_at len offset bytes
 unfolding bytes_at
 bytes_at-front len offset bytes rest within =
     ap (take len) (drop-append-le offset bytes rest (omega arith))
@@ -81,7 +83,8 @@ AreBytes-number_bytes len number = AreBytes-low_first 0 len number
 
 -- ---- numbers
 
-pub number_at-front : (len offset : ℕ) (bytes rest : List ℕ) → offset + len ≤ length bytes → number_at len offset (bytes ++ rest) ≡ number_at len offset bytes
+pub number_at-front : (len offset : ℕ) (bytes rest : List ℕ) → offset + len ≤ length bytes
+    → number_at len offset (bytes ++ rest) ≡ number_at len offset bytes
 unfolding number_at
 number_at-front len offset bytes rest within = ap (little_number len) (bytes_at-front len offset bytes rest within)
 
@@ -91,7 +94,8 @@ unfolding number_at bytes_at
 number_at-drop len offset bytes = sym (little_from-take 0 len len (drop offset bytes) (omega arith))
 
 -- a number that is spelled at an offset is read there
-pub number_at-is : (len offset number : ℕ) (bytes : List ℕ) → bytes_at len offset bytes ≡ number_bytes len number → number < 256 ^ len → number_at len offset bytes ≡ number
+pub number_at-is : (len offset number : ℕ) (bytes : List ℕ) → bytes_at len offset bytes ≡ number_bytes len number → number < 256 ^ len
+    → number_at len offset bytes ≡ number
 unfolding number_at number_bytes
 number_at-is len offset number bytes is fits =
     ap (little_number len) (is ∙ sym (append-nil (little_bytes len number))) ∙ little_number-reads_back len number [] fits
@@ -107,16 +111,20 @@ little_number-8 : (bytes : List ℕ) → little_number 8 bytes ≡ from_le_bytes
 little_number-8 bytes = omega arith
 
 -- a number of 4 bytes that was read at an offset spells what stands there
-pub number_bytes-at_4 : (offset : ℕ) (bytes : List ℕ) → AreBytes bytes → offset + 4 ≤ length bytes → number_bytes 4 (number_at 4 offset bytes) ≡ bytes_at 4 offset bytes
+pub number_bytes-at_4 : (offset : ℕ) (bytes : List ℕ) → AreBytes bytes → offset + 4 ≤ length bytes
+    → number_bytes 4 (number_at 4 offset bytes) ≡ bytes_at 4 offset bytes
 unfolding number_at number_bytes
 number_bytes-at_4 offset bytes fits within =
-    le_bytes_4 (bytes_at 4 offset bytes) _ (length-bytes_at 4 offset bytes within) (AreBytes-bytes_at 4 offset bytes fits) (little_number-4 (bytes_at 4 offset bytes))
+    le_bytes_4 (bytes_at 4 offset bytes) _ (length-bytes_at 4 offset bytes within) (AreBytes-bytes_at 4 offset bytes fits)
+    (little_number-4 (bytes_at 4 offset bytes))
 
 -- the same of 8 bytes
-pub number_bytes-at_8 : (offset : ℕ) (bytes : List ℕ) → AreBytes bytes → offset + 8 ≤ length bytes → number_bytes 8 (number_at 8 offset bytes) ≡ bytes_at 8 offset bytes
+pub number_bytes-at_8 : (offset : ℕ) (bytes : List ℕ) → AreBytes bytes → offset + 8 ≤ length bytes
+    → number_bytes 8 (number_at 8 offset bytes) ≡ bytes_at 8 offset bytes
 unfolding number_at number_bytes
 number_bytes-at_8 offset bytes fits within =
-    le_bytes_8 (bytes_at 8 offset bytes) _ (length-bytes_at 8 offset bytes within) (AreBytes-bytes_at 8 offset bytes fits) (little_number-8 (bytes_at 8 offset bytes))
+    le_bytes_8 (bytes_at 8 offset bytes) _ (length-bytes_at 8 offset bytes within) (AreBytes-bytes_at 8 offset bytes fits)
+    (little_number-8 (bytes_at 8 offset bytes))
 
 zero_from : (i n : ℕ) (bytes : List ℕ) → little_from i n bytes ≡ 0 → (k : ℕ) → i ≤ k → k < i + n → get_or bytes k 0 ≡ 0
 zero_from i zero bytes none k from below = absurd (omega arith)
@@ -137,14 +145,16 @@ from_zero i (suc n) bytes each =
     omega (arith, first, others)
 
 -- each byte of a number that is 0 is 0
-pub zero_bytes : (len offset : ℕ) (bytes : List ℕ) → number_at len offset bytes ≡ 0 → (i : ℕ) → offset ≤ i → i < offset + len → get_or bytes i 0 ≡ 0
+pub zero_bytes : (len offset : ℕ) (bytes : List ℕ) → number_at len offset bytes ≡ 0 → (i : ℕ) → offset ≤ i → i < offset + len
+    → get_or bytes i 0 ≡ 0
 zero_bytes len offset bytes none i from below =
     let there : i ≡ offset + (i - offset) = omega arith in
     ap (λ (j : ℕ). get_or bytes j 0) there ∙ sym (get_or-drop offset bytes (i - offset) 0)
     ∙ zero_from 0 len (drop offset bytes) (number_at-drop len offset bytes ∙ none) (i - offset) (omega arith) (omega arith)
 
 -- a number of bytes that are 0 is 0
-pub zero_number : (len offset : ℕ) (bytes : List ℕ) → ((i : ℕ) → offset ≤ i → i < offset + len → get_or bytes i 0 ≡ 0) → number_at len offset bytes ≡ 0
+pub zero_number : (len offset : ℕ) (bytes : List ℕ) → ((i : ℕ) → offset ≤ i → i < offset + len → get_or bytes i 0 ≡ 0)
+    → number_at len offset bytes ≡ 0
 zero_number len offset bytes each =
     sym (number_at-drop len offset bytes)
     ∙ from_zero 0 len (drop offset bytes) (λ k from below. get_or-drop offset bytes k 0 ∙ each (offset + k) (omega arith) (omega arith))
@@ -163,4 +173,5 @@ pub zeros_more : (front : List ℕ) (i n : ℕ) → n ≤ i → (front ++ zeros 
 unfolding zeros
 zeros_more front i n le =
     let next : i - n + 1 ≡ i + 1 - n = omega arith in
-    append_assoc front (replicate (i - n) 0) (0 ∷ []) ∙ ap (λ (xs : List ℕ). front ++ xs) (replicate_more (i - n) 0 ∙ ap (λ (k : ℕ). replicate k 0) next)
+    append_assoc front (replicate (i - n) 0) (0 ∷ [])
+    ∙ ap (λ (xs : List ℕ). front ++ xs) (replicate_more (i - n) 0 ∙ ap (λ (k : ℕ). replicate k 0) next)

@@ -18,18 +18,23 @@ unfolding bytes_at
 bytes_at-past len more front rest =
     ap (take len) (sym (drop-drop more (length front) (front ++ rest)) ∙ ap (drop more) (drop_at front rest (length front) refl))
 
-part_at : (parts : List (List ℕ)) (rest : List ℕ) (k : ℕ) → k < length parts → bytes_at (get_or (map length parts) k 0) (offset_of k (map length parts)) (concat parts ++ rest) ≡ get_or parts k []
+part_at : (parts : List (List ℕ)) (rest : List ℕ) (k : ℕ) → k < length parts
+    → bytes_at (get_or (map length parts) k 0) (offset_of k (map length parts)) (concat parts ++ rest) ≡ get_or parts k []
 part_at [] rest k lt = absurd (omega arith)
 part_at (part ∷ parts) rest zero lt =
-    ap (bytes_at (length part) 0) (append_assoc part (concat parts) rest) ∙ bytes_at-behind [] part (concat parts ++ rest) 0 (length part) refl refl
+    ap (bytes_at (length part) 0) (append_assoc part (concat parts) rest)
+    ∙ bytes_at-behind [] part (concat parts ++ rest) 0 (length part) refl refl
 part_at (part ∷ parts) rest (suc k) lt =
     ap (bytes_at (get_or (map length parts) k 0) (length part + offset_of k (map length parts))) (append_assoc part (concat parts) rest)
-    ∙ bytes_at-past (get_or (map length parts) k 0) (offset_of k (map length parts)) part (concat parts ++ rest) ∙ part_at parts rest k (omega arith)
+    ∙ bytes_at-past (get_or (map length parts) k 0) (offset_of k (map length parts)) part (concat parts ++ rest)
+    ∙ part_at parts rest k (omega arith)
 
 -- a part by its number, where all lengths are known
-pub part_of : (parts : List (List ℕ)) (rest : List ℕ) (lens : List ℕ) → map length parts ≡ lens → (k : ℕ) → k < length parts → bytes_at (get_or lens k 0) (offset_of k lens) (concat parts ++ rest) ≡ get_or parts k []
+pub part_of : (parts : List (List ℕ)) (rest : List ℕ) (lens : List ℕ) → map length parts ≡ lens → (k : ℕ) → k < length parts
+    → bytes_at (get_or lens k 0) (offset_of k lens) (concat parts ++ rest) ≡ get_or parts k []
 part_of parts rest lens known k lt =
-    subst (λ (ls : List ℕ). bytes_at (get_or ls k 0) (offset_of k ls) (concat parts ++ rest) ≡ get_or parts k []) known (part_at parts rest k lt)
+    subst (λ (ls : List ℕ). bytes_at (get_or ls k 0) (offset_of k ls) (concat parts ++ rest) ≡ get_or parts k []) known
+    (part_at parts rest k lt)
 
 -- parts of these lengths, cut from bytes one behind the other from an offset on
 abbrev pub cut : List ℕ → ℕ → List ℕ → List (List ℕ)
@@ -42,7 +47,8 @@ reach [] offset = offset
 reach (len ∷ lens) offset = reach lens (offset + len)
 
 -- what is cut makes up the bytes as far as it reaches
-pub concat-cut : (lens : List ℕ) (offset : ℕ) (bytes : List ℕ) → take offset bytes ++ concat (cut lens offset bytes) ≡ take (reach lens offset) bytes
+pub concat-cut : (lens : List ℕ) (offset : ℕ) (bytes : List ℕ)
+    → take offset bytes ++ concat (cut lens offset bytes) ≡ take (reach lens offset) bytes
 unfolding bytes_at
 concat-cut [] offset bytes = append-nil (take offset bytes)
 concat-cut (len ∷ lens) offset bytes =

@@ -31,7 +31,8 @@ grouped a b d p q s t = simp (append_assoc, append-nil)
 
 spelled_parts : (f : Fields) → spelled f ≡ concat (parts_of f)
 spelled_parts f =
-    grouped (number_bytes 4 f.kind) (number_bytes 4 f.key.len) f.key.digest (number_bytes 8 f.home.place) (number_bytes 8 f.home.birth) (number_bytes 8 f.home.since) (number_bytes 8 f.home.count)
+    grouped (number_bytes 4 f.kind) (number_bytes 4 f.key.len) f.key.digest (number_bytes 8 f.home.place) (number_bytes 8 f.home.birth)
+    (number_bytes 8 f.home.since) (number_bytes 8 f.home.count)
 
 parts_lens : (f : Fields) → KeyFits f.key → map length (parts_of f) ≡ lens
 parts_lens f fits =
@@ -39,7 +40,8 @@ parts_lens f fits =
     simp (length-number_bytes, digest)
 
 -- what stands at a part's place
-part : (f : Fields) (rest : List ℕ) → KeyFits f.key → (k : ℕ) → k < 7 → bytes_at (get_or lens k 0) (offset_of k lens) (spelled f ++ rest) ≡ get_or (parts_of f) k []
+part : (f : Fields) (rest : List ℕ) → KeyFits f.key → (k : ℕ) → k < 7
+    → bytes_at (get_or lens k 0) (offset_of k lens) (spelled f ++ rest) ≡ get_or (parts_of f) k []
 part f rest fits k lt =
     ap (λ (xs : List ℕ). bytes_at (get_or lens k 0) (offset_of k lens) (xs ++ rest)) (spelled_parts f)
     ∙ part_of (parts_of f) rest lens (parts_lens f fits) k lt
@@ -64,7 +66,8 @@ same_fields k k' l l' d d' p p' b b' s s' c c' ek el ed ep eb es ec = cc
 fields_first : (bytes rest : List ℕ) → 72 ≤ length bytes → fields_in (bytes ++ rest) ≡ fields_in bytes
 fields_first bytes rest long =
     same_fields _ _ _ _ _ _ _ _ _ _ _ _ _ _
-    (number_at-front 4 0 bytes rest (omega arith)) (number_at-front 4 4 bytes rest (omega arith)) (bytes_at-front 32 8 bytes rest (omega arith))
+    (number_at-front 4 0 bytes rest (omega arith)) (number_at-front 4 4 bytes rest (omega arith))
+    (bytes_at-front 32 8 bytes rest (omega arith))
     (number_at-front 8 40 bytes rest (omega arith)) (number_at-front 8 48 bytes rest (omega arith))
     (number_at-front 8 56 bytes rest (omega arith)) (number_at-front 8 64 bytes rest (omega arith))
 
@@ -94,7 +97,8 @@ parts_again bytes fits long =
 -- the bytes that were read
 spelled_again : (bytes : List ℕ) → AreBytes bytes → 72 ≤ length bytes → spelled (fields_in bytes) ++ drop 72 bytes ≡ bytes
 spelled_again bytes fits long =
-    let front : spelled (fields_in bytes) ≡ take 72 bytes = spelled_parts (fields_in bytes) ∙ ap concat (parts_again bytes fits long) ∙ concat-cut lens 0 bytes in
+    let front : spelled (fields_in bytes) ≡ take 72 bytes = spelled_parts (fields_in bytes) ∙ ap concat (parts_again bytes fits long)
+    ∙ concat-cut lens 0 bytes in
     ap (λ (xs : List ℕ). xs ++ drop 72 bytes) front ∙ take-append-drop 72 bytes
 
 key_fits : (bytes : List ℕ) → AreBytes bytes → 72 ≤ length bytes → KeyFits (fields_in bytes).key
@@ -177,22 +181,26 @@ own_fields f change e =
     elim tests.1 [
       | inl one ↦
           let kind : f.kind ≡ 1 = eqb-true f.kind 1 one.0 in
-          let same : f ≡ record { kind = 1; key = f.key; home = f.home } = ap (λ (k : ℕ). record { kind = k; key = f.key; home = f.home }) kind in
+          let same : f ≡ record { kind = 1; key = f.key; home = f.home } = ap
+          (λ (k : ℕ). record { kind = k; key = f.key; home = f.home }) kind in
           subst P one.1 (same, len)
       | inr two ↦
           let both = and_parts (eqb f.kind 2) (is_no_home f.home) two.0 in
           let kind : f.kind ≡ 2 = eqb-true f.kind 2 both.0 in
           let home : f.home ≡ no_home = no_home-from f.home both.1 in
           let same : f ≡ record { kind = 2; key = f.key; home = no_home } =
-          ap (λ (k : ℕ). record { kind = k; key = f.key; home = f.home }) kind ∙ ap (λ (h : Home). record { kind = 2; key = f.key; home = h }) home in
+          ap (λ (k : ℕ). record { kind = k; key = f.key; home = f.home }) kind
+          ∙ ap (λ (h : Home). record { kind = 2; key = f.key; home = h }) home in
           subst P two.1 (same, len)
     ]
 
 -- ---- The laws
 
-pub written : (change : Change) (rest : List ℕ) → Fits change → IsKeyLength (key_in change).len → change_in (record_bytes change ++ rest) ≡ Ok change
+pub written : (change : Change) (rest : List ℕ) → Fits change → IsKeyLength (key_in change).len
+    → change_in (record_bytes change ++ rest) ≡ Ok change
 written change rest fits len =
-    ap change_of (fields_back (fields_of change) rest (kind-said change) (key-fits change fits) (home-said change fits)) ∙ said_again change len
+    ap change_of (fields_back (fields_of change) rest (kind-said change) (key-fits change fits) (home-said change fits))
+    ∙ said_again change len
 
 pub was_written : (bytes : List ℕ) (change : Change) → AreBytes bytes → 72 ≤ length bytes → change_in bytes ≡ Ok change
     → (bytes ≡ record_bytes change ++ drop 72 bytes) × Fits change × IsKeyLength (key_in change).len
@@ -250,8 +258,10 @@ zeros_from bytes none i h =
 no_home-said : (bytes : List ℕ) → ((i : ℕ) → i < 32 → get_or bytes (40 + i) 0 ≡ 0) → (fields_in bytes).home ≡ no_home
 no_home-said bytes z =
     same_home _ _ _ _ _ _ _ _
-    (zero_number 8 40 bytes (λ i from below. zero_at i (omega arith) (omega arith))) (zero_number 8 48 bytes (λ i from below. zero_at i (omega arith) (omega arith)))
-    (zero_number 8 56 bytes (λ i from below. zero_at i (omega arith) (omega arith))) (zero_number 8 64 bytes (λ i from below. zero_at i (omega arith) (omega arith)))
+    (zero_number 8 40 bytes (λ i from below. zero_at i (omega arith) (omega arith)))
+    (zero_number 8 48 bytes (λ i from below. zero_at i (omega arith) (omega arith)))
+    (zero_number 8 56 bytes (λ i from below. zero_at i (omega arith) (omega arith)))
+    (zero_number 8 64 bytes (λ i from below. zero_at i (omega arith) (omega arith)))
   where
     zero_at : (i : ℕ) → 40 ≤ i → i < 72 → get_or bytes i 0 ≡ 0
     zero_at i from below =
@@ -284,7 +294,8 @@ record_says bytes r =
           (Gone f.key, judged_two (is_key_length f.key.len) (eqb f.kind 1) (eqb f.kind 2 && is_no_home f.home) entry (Gone f.key) len other both)
     ]
 
-len_said : (bytes : List ℕ) (change : Change) → fields_in bytes ≡ fields_of change → IsKeyLength (key_in change).len → IsKeyLength (number_at 4 4 bytes)
+len_said : (bytes : List ℕ) (change : Change) → fields_in bytes ≡ fields_of change → IsKeyLength (key_in change).len
+    → IsKeyLength (number_at 4 4 bytes)
 len_said bytes change same len =
     let P : Key → Type 0 = λ k. IsKeyLength k.len in
     subst P (sym (ap (λ (f : Fields). f.key) same ∙ key-said change)) len
@@ -306,7 +317,8 @@ change_from (Err fault) e = absurd cc
 
 pub right : (bytes : List ℕ) → IsOk (change_in bytes) ↔ IsRecord bytes
 right bytes = (
-  (λ ok. let found = change_from (change_in bytes) ok in let own = own_fields (fields_in bytes) found.0 found.1 in says_record bytes found.0 own.0 own.1),
+  (λ ok. let found = change_from (change_in bytes) ok in let own = own_fields
+      (fields_in bytes) found.0 found.1 in says_record bytes found.0 own.0 own.1),
   (λ is. let said = record_says bytes is in ap is_ok said.1),
 )
 
@@ -317,5 +329,6 @@ refused (Err fault) says not_so = refl
 pub wrong : (bytes : List ℕ) → (change_in bytes ≡ malformed) ↔ (¬ IsRecord bytes)
 wrong bytes = (
   (λ e is. let said = record_says bytes is in absurd cc),
-  (λ not_so. refused (change_in bytes) (λ change e. let own = own_fields (fields_in bytes) change e in says_record bytes change own.0 own.1) not_so),
+  (λ not_so. refused (change_in bytes)
+      (λ change e. let own = own_fields (fields_in bytes) change e in says_record bytes change own.0 own.1) not_so),
 )

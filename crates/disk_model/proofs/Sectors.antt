@@ -11,11 +11,13 @@ pub sector_at-set : (image : Image) (at : ℕ) (bytes : List ℕ) → at < lengt
 sector_at-set image at bytes within = get_or-set_same image at bytes [] within
 
 -- and the others are as before
-pub sector_at-set_other : (image : Image) (at other : ℕ) (bytes : List ℕ) → other ≢ at → sector_at (slice_set image at bytes) other ≡ sector_at image other
+pub sector_at-set_other : (image : Image) (at other : ℕ) (bytes : List ℕ) → other ≢ at
+    → sector_at (slice_set image at bytes) other ≡ sector_at image other
 sector_at-set_other image at other bytes apart = get_or-set_other image at other bytes [] apart
 
 -- a written sector is whole, and so is the image
-pub IsImage-set : (sectors : ℕ) (image : Image) (at : ℕ) (bytes : List ℕ) → IsImage sectors image → (at < sectors → length bytes ≡ sector_bytes) → IsImage sectors (slice_set image at bytes)
+pub IsImage-set : (sectors : ℕ) (image : Image) (at : ℕ) (bytes : List ℕ) → IsImage sectors image
+    → (at < sectors → length bytes ≡ sector_bytes) → IsImage sectors (slice_set image at bytes)
 IsImage-set sectors image at bytes is long = record { count = length-set image at bytes ∙ is.count; whole = whole }
   where
     whole : (i : ℕ) → i < length (slice_set image at bytes) → length (sector_at (slice_set image at bytes) i) ≡ sector_bytes
@@ -24,7 +26,8 @@ IsImage-set sectors image at bytes is long = record { count = length-set image a
         ⊎_elim
         (λ (same : i ≡ at).
         let inside_at : at < length image = subst (λ j. j < length image) same inside in
-        ap (λ j. length (sector_at (slice_set image at bytes) j)) same ∙ ap length (sector_at-set image at bytes inside_at) ∙ long (omega (arith, inside_at, is.count)))
+        ap (λ j. length (sector_at (slice_set image at bytes) j)) same ∙ ap length (sector_at-set image at bytes inside_at)
+        ∙ long (omega (arith, inside_at, is.count)))
         (λ (apart : i ≢ at). ap length (sector_at-set_other image at i bytes apart) ∙ is.whole i inside)
         (cases_eq i at)
 
@@ -48,7 +51,8 @@ IsImage-torn sectors old new at is torn = record { count = torn.count ∙ is.cou
     whole i within =
         let inside : i < length old = omega (arith, within, torn.count) in
         ⊎_elim
-        (λ (same : i ≡ at). subst (λ j. length (sector_at new j) ≡ sector_bytes) (sym same) (torn.whole (subst (λ j. j < length old) same inside)))
+        (λ (same : i ≡ at). subst (λ j. length (sector_at new j) ≡ sector_bytes) (sym same)
+        (torn.whole (subst (λ j. j < length old) same inside)))
         (λ (apart : i ≢ at). ap length (torn.others i apart) ∙ is.whole i inside)
         (cases_eq i at)
 

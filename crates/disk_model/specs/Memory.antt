@@ -147,7 +147,8 @@ metered disk = record disk { made = one_more disk.made; meters = one_more disk.m
 -- a call fails where it is told to, or for want of memory, and else does what it is for
 abbrev pub Answers : {T E : Type 0} → (old new : MemoryDisk) → Result T E → (done : MemoryDisk) → Type 0
 Answers old new result done =
-    MatchResult result (λ _. (next_fails old ≡ false) × (new ≡ done)) (λ _. new ≡ (if next_fails old then refused old else without_memory old))
+    MatchResult result (λ _. (next_fails old ≡ false) × (new ≡ done))
+    (λ _. new ≡ (if next_fails old then refused old else without_memory old))
 
 -- how a crash treats a pending sector: 0 keeps what it held at the last barrier, 1 what was written, 2 sets each byte to 165, and
 -- 3 takes these three in turn, by the sector's number

@@ -15,13 +15,15 @@ left_now disk since c earlier left = record {
   done = length disk.calls;
   no_earlier = earlier;
   no_later = omega arith;
-  left = subst (λ (calls : List Call). MayLeave disk.sectors (cells_after disk.start calls) c) (sym (take_all (length disk.calls) disk.calls (omega arith))) left;
+  left = subst (λ (calls : List Call). MayLeave disk.sectors (cells_after disk.start calls) c)
+      (sym (take_all (length disk.calls) disk.calls (omega arith))) left;
 }
 
 -- since this moment there is no other
 no_other : (disk : MemoryDisk) (c : Image) → WasLeft disk.sectors disk.start disk.calls (length disk.calls) c → MayBeLeft disk c
 no_other disk c was =
-    subst (λ (calls : List Call). MayLeave disk.sectors (cells_after disk.start calls) c) (take_all was.done disk.calls (omega (arith, was.no_earlier))) was.left
+    subst (λ (calls : List Call). MayLeave disk.sectors (cells_after disk.start calls) c)
+    (take_all was.done disk.calls (omega (arith, was.no_earlier))) was.left
 
 -- what it tells is a disk's at each moment
 pub is_disk : (disk : MemoryDisk) → IsDisk (state_of disk)

@@ -10,8 +10,10 @@ use Rattle.grant_book.specs.Sectors.{free_from, free_sectors, AreFirstFree}
 -- there are as many as there are notes that say so
 length-free_from : (sector : ℕ) (used : List Bool) → length (free_from sector used) ≡ count_by not used
 length-free_from sector [] = refl
-length-free_from sector (true ∷ used) = omega (arith, length-free_from (sector + 1) used, sum_by-cons (λ is_used. cond (not is_used) 1 0) true used)
-length-free_from sector (false ∷ used) = omega (arith, length-free_from (sector + 1) used, sum_by-cons (λ is_used. cond (not is_used) 1 0) false used)
+length-free_from sector (true ∷ used) = omega
+    (arith, length-free_from (sector + 1) used, sum_by-cons (λ is_used. cond (not is_used) 1 0) true used)
+length-free_from sector (false ∷ used) = omega
+    (arith, length-free_from (sector + 1) used, sum_by-cons (λ is_used. cond (not is_used) 1 0) false used)
 
 pub length-free_sectors : (used : List Bool) → length (free_sectors used) ≡ count_by not used
 length-free_sectors used = length-free_from 0 used
@@ -29,7 +31,8 @@ record IsFreeFrom (first : ℕ) (used : List Bool) (sector : ℕ) : Type 0 where
   free : (default : Bool) → slice_index_or used (sector - first) default ≡ false
 
 -- a note in front of those that there are
-free_behind : (first : ℕ) (is_used : Bool) (used : List Bool) (sector : ℕ) → IsFreeFrom (first + 1) used sector → IsFreeFrom first (is_used ∷ used) sector
+free_behind : (first : ℕ) (is_used : Bool) (used : List Bool) (sector : ℕ) → IsFreeFrom (first + 1) used sector
+    → IsFreeFrom first (is_used ∷ used) sector
 free_behind first is_used used sector is_free = record {
   from = omega (arith, is_free.from);
   within = omega (arith, is_free.within);
@@ -39,9 +42,11 @@ free_behind first is_used used sector is_free = record {
     one_more : sector - first ≡ suc (sector - (first + 1))
     one_more = omega (arith, is_free.from)
 
-free_behind_all : (first : ℕ) (is_used : Bool) (used : List Bool) (sectors : List ℕ) → AllByRecursion (IsFreeFrom (first + 1) used) sectors → AllByRecursion (IsFreeFrom first (is_used ∷ used)) sectors
+free_behind_all : (first : ℕ) (is_used : Bool) (used : List Bool) (sectors : List ℕ) → AllByRecursion (IsFreeFrom (first + 1) used) sectors
+    → AllByRecursion (IsFreeFrom first (is_used ∷ used)) sectors
 free_behind_all first is_used used [] all = tt
-free_behind_all first is_used used (sector ∷ sectors) all = (free_behind first is_used used sector all.0, free_behind_all first is_used used sectors all.1)
+free_behind_all first is_used used
+    (sector ∷ sectors) all = (free_behind first is_used used sector all.0, free_behind_all first is_used used sectors all.1)
 
 free_from-free : (first : ℕ) (used : List Bool) → AllByRecursion (IsFreeFrom first used) (free_from first used)
 free_from-free first [] = tt
@@ -95,7 +100,8 @@ free_sectors-rising used = rising_from 0 used
 pub AreRising-take : (count : ℕ) (numbers : List ℕ) → AreRising numbers → AreRising (take count numbers)
 AreRising-take zero numbers rising = tt
 AreRising-take (suc count) [] rising = tt
-AreRising-take (suc count) (first ∷ others) rising = (all_taken (λ other. first < other) count others rising.0, AreRising-take count others rising.1)
+AreRising-take (suc count)
+    (first ∷ others) rising = (all_taken (λ other. first < other) count others rising.0, AreRising-take count others rising.1)
 
 -- numbers that rise are distinct
 pub distinct_from_rising : (numbers : List ℕ) → AreRising numbers → IsDistinct eqb numbers
@@ -110,20 +116,24 @@ distinct_from_rising (first ∷ others) rising = (each others rising.0, distinct
 -- places that were found: each is free, and no two are one
 module _ (used : List Bool) (wanted : ℕ) (places : List ℕ) (found : AreFirstFree used wanted places) where
   pub found-free : AllByRecursion (IsFree used) places
-  found-free = subst (AllByRecursion (IsFree used)) (sym found.first) (all_taken (IsFree used) wanted (free_sectors used) (free_sectors-free used))
+  found-free = subst (AllByRecursion (IsFree used)) (sym found.first)
+      (all_taken (IsFree used) wanted (free_sectors used) (free_sectors-free used))
 
   pub found-distinct : IsDistinct eqb places
-  found-distinct = subst (IsDistinct eqb) (sym found.first) (distinct_from_rising (take wanted (free_sectors used)) (AreRising-take wanted (free_sectors used) (free_sectors-rising used)))
+  found-distinct = subst (IsDistinct eqb) (sym found.first)
+      (distinct_from_rising (take wanted (free_sectors used)) (AreRising-take wanted (free_sectors used) (free_sectors-rising used)))
 
 -- what was found, where as many as were wanted were found
-found_enough : (used : List Bool) (places : List ℕ) (sector wanted : ℕ) → places ++ free_from sector (drop sector used) ≡ free_sectors used → length places ≡ wanted → AreFirstFree used wanted places
+found_enough : (used : List Bool) (places : List ℕ) (sector wanted : ℕ) → places ++ free_from sector (drop sector used) ≡ free_sectors used
+    → length places ≡ wanted → AreFirstFree used wanted places
 found_enough used places sector wanted found count = record {
   first = sym (take_at places (free_from sector (drop sector used)) wanted count) ∙ ap (take wanted) found;
   count = count;
 }
 
 -- what was found at the end of the pool, where there are enough
-pub found_at_end : (used : List Bool) (places : List ℕ) (sector wanted : ℕ) → length used ≤ sector → places ++ free_from sector (drop sector used) ≡ free_sectors used → length places ≤ wanted → wanted ≤ count_by not used
+pub found_at_end : (used : List Bool) (places : List ℕ) (sector wanted : ℕ) → length used ≤ sector
+    → places ++ free_from sector (drop sector used) ≡ free_sectors used → length places ≤ wanted → wanted ≤ count_by not used
     → AreFirstFree used wanted places
 found_at_end used places sector wanted past found few enough =
     found_enough used places sector wanted found (omega (arith, few, enough, ap length all, length-free_sectors used))

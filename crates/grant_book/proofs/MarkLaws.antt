@@ -29,18 +29,22 @@ length-marked [] used = refl
 length-marked (sector ∷ sectors) used = length-marked sectors (set used sector true) ∙ length-set used sector true
 
 -- one sector more is used
-pub set_used : (used : List Bool) (sector at : ℕ) (default : Bool) → at < length used → get_or (set used sector true) at default ≡ (get_or used at default || (sector == at))
+pub set_used : (used : List Bool) (sector at : ℕ) (default : Bool) → at < length used
+    → get_or (set used sector true) at default ≡ (get_or used at default || (sector == at))
 set_used used sector at default within =
     ⊎_elim
     (λ same. let here : sector < length used = omega (arith, same.1) in
-    ap (λ n. get_or (set used sector true) n default) (sym same.1) ∙ get_or-set_same used sector true default here ∙ sym (ap (λ b. get_or used at default || b) same.0 ∙ or_true (get_or used at default)))
-    (λ other. get_or-set_other used sector at true default (λ e. other.1 (sym e)) ∙ sym (ap (λ b. get_or used at default || b) other.0 ∙ or_false (get_or used at default)))
+    ap (λ n. get_or (set used sector true) n default) (sym same.1) ∙ get_or-set_same used sector true default here
+    ∙ sym (ap (λ b. get_or used at default || b) same.0 ∙ or_true (get_or used at default)))
+    (λ other. get_or-set_other used sector at true default (λ e. other.1 (sym e))
+    ∙ sym (ap (λ b. get_or used at default || b) other.0 ∙ or_false (get_or used at default)))
     (eqb_tells sector at)
 
 -- ---- Many
 
 -- a sector is used after others were marked where it was used, or is one of them
-pub marked-at : (sectors : List ℕ) (used : List Bool) (at : ℕ) (default : Bool) → at < length used → get_or (marked used sectors) at default ≡ (get_or used at default || list_any (λ sector. sector == at) sectors)
+pub marked-at : (sectors : List ℕ) (used : List Bool) (at : ℕ) (default : Bool) → at < length used
+    → get_or (marked used sectors) at default ≡ (get_or used at default || list_any (λ sector. sector == at) sectors)
 marked-at [] used at default within = sym (or_false (get_or used at default))
 marked-at (sector ∷ sectors) used at default within =
     let yet : at < length (set used sector true) = omega (arith, length-set used sector true) in
@@ -59,7 +63,8 @@ free_set : (used : List Bool) (sector : ℕ) → count_by not used ≤ count_by 
 free_set [] sector = omega arith
 free_set (true ∷ used) zero = omega arith
 free_set (false ∷ used) zero = omega (arith, free_cons false used, free_cons true used)
-free_set (is_used ∷ used) (suc sector) = omega (arith, free_cons is_used used, free_cons is_used (set used sector true), free_set used sector)
+free_set (is_used ∷ used) (suc sector) = omega
+    (arith, free_cons is_used used, free_cons is_used (set used sector true), free_set used sector)
 
 -- marks leave at most as many fewer free as there are
 pub free_marked : (sectors : List ℕ) (used : List Bool) → count_by not used ≤ count_by not (marked used sectors) + length sectors

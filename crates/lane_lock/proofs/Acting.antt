@@ -124,7 +124,8 @@ module _ {M B S A : Type 0} (t : Meaning M B S A) (q : Asked M S A) where
         hand = refl;
         base = did.base ∙ hand.base;
         history = did.history;
-        wide = let x = did.spare in let y = hand.wide in let g : sum m.0.shares ≤ t.spare r.after + length (t.history r.after) = omega arith in
+        wide = let x = did.spare in let y = hand.wide in let g : sum m.0.shares ≤ t.spare r.after + length
+            (t.history r.after) = omega arith in
             g;
         fit = record {
           legal = kept_is_legal t (t.base q.first) (t.history r.now) q.step q.answer a.fits

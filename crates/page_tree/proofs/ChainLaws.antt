@@ -15,23 +15,28 @@ use Rattle.page_tree.specs.declared.pointer.PagePtr.{PagePtr}
 use Rattle.page_tree.proofs.PointerLaws.{length-pointer_bytes, pointer_in-pointer_bytes}
 
 -- records of 72 bytes are cut again from their joint bytes
-pub parts_in-concat : (records : List (List ℕ)) (rest : List ℕ) → AllByRecursion (λ bytes. length bytes ≡ record_len) records → parts_in (length records) record_len (concat records ++ rest) ≡ records
+pub parts_in-concat : (records : List (List ℕ)) (rest : List ℕ) → AllByRecursion (λ bytes. length bytes ≡ record_len) records
+    → parts_in (length records) record_len (concat records ++ rest) ≡ records
 parts_in-concat [] rest all = refl
 parts_in-concat (bytes ∷ records) rest all =
     let grouped : concat (bytes ∷ records) ++ rest ≡ bytes ++ (concat records ++ rest) = append_assoc bytes (concat records) rest in
     ap (λ (all_bytes : List ℕ). take record_len all_bytes ∷ parts_in (length records) record_len (drop record_len all_bytes)) grouped
-    ∙ ap (λ (first : List ℕ). first ∷ parts_in (length records) record_len (drop record_len (bytes ++ (concat records ++ rest)))) (take_at bytes (concat records ++ rest) record_len all.0)
-    ∙ ap (λ (behind : List ℕ). bytes ∷ parts_in (length records) record_len behind) (drop_at bytes (concat records ++ rest) record_len all.0)
+    ∙ ap (λ (first : List ℕ). first ∷ parts_in (length records) record_len (drop record_len (bytes ++ (concat records ++ rest))))
+    (take_at bytes (concat records ++ rest) record_len all.0)
+    ∙ ap (λ (behind : List ℕ). bytes ∷ parts_in (length records) record_len behind)
+    (drop_at bytes (concat records ++ rest) record_len all.0)
     ∙ ap (λ (rs : List (List ℕ)). bytes ∷ rs) (parts_in-concat records rest all.1)
 
-pub length-concat : (records : List (List ℕ)) → AllByRecursion (λ bytes. length bytes ≡ record_len) records → length (concat records) ≡ record_len * length records
+pub length-concat : (records : List (List ℕ)) → AllByRecursion (λ bytes. length bytes ≡ record_len) records
+    → length (concat records) ≡ record_len * length records
 length-concat [] all = refl
 length-concat (bytes ∷ records) all = omega (arith, length-append bytes (concat records), all.0, length-concat records all.1)
 
 abbrev page_of : PagePtr → List (List ℕ) → ChainPage
 page_of next records = record { next = next; records = records }
 
-same_page : (next next' : PagePtr) (records records' : List (List ℕ)) → next ≡ next' → records ≡ records' → page_of next records ≡ page_of next' records'
+same_page : (next next' : PagePtr) (records records' : List (List ℕ)) → next ≡ next' → records ≡ records'
+    → page_of next records ≡ page_of next' records'
 same_page next next' records records' a b = ap (λ (n : PagePtr). page_of n records) a ∙ ap (page_of next') b
 
 module _ (page : ChainPage) (fits : FitsPage page) where
@@ -71,20 +76,25 @@ module _ (page : ChainPage) (fits : FitsPage page) where
   unfolding count_in number
   count_back =
       number_at-is 4 4 (length page.records) (chain_page_bytes page)
-      (ap (bytes_at 4 4) grouped ∙ bytes_at-behind chain_text number (pointer ++ behind) 4 4 refl (length-number_bytes 4 (length page.records)))
+      (ap (bytes_at 4 4) grouped
+      ∙ bytes_at-behind chain_text number (pointer ++ behind) 4 4 refl (length-number_bytes 4 (length page.records)))
       (omega (arith, fits.room))
 
   next_back : next_in (chain_page_bytes page) ≡ page.next
   unfolding next_in pointer number
   next_back =
-      ap pointer_in (ap (drop 8) (grouped ∙ sym (append_assoc chain_text number (pointer ++ behind))) ∙ drop_at (chain_text ++ number) (pointer ++ behind) 8 (omega (arith, length-append chain_text number, length-number_bytes 4 (length page.records))))
+      ap pointer_in (ap (drop 8) (grouped ∙ sym (append_assoc chain_text number (pointer ++ behind)))
+      ∙ drop_at (chain_text ++ number) (pointer ++ behind) 8
+      (omega (arith, length-append chain_text number, length-number_bytes 4 (length page.records))))
       ∙ pointer_in-pointer_bytes page.next behind fits.next
 
   records_back : drop 48 (chain_page_bytes page) ≡ behind
   unfolding pointer number
   records_back =
-      ap (drop 48) (grouped ∙ sym (append_assoc chain_text number (pointer ++ behind)) ∙ sym (append_assoc (chain_text ++ number) pointer behind))
-      ∙ drop_at (chain_text ++ number ++ pointer) behind 48 (omega (arith, length-append (chain_text ++ number) pointer, length-append chain_text number, length-number_bytes 4 (length page.records), length-pointer_bytes page.next fits.next))
+      ap (drop 48) (grouped ∙ sym (append_assoc chain_text number (pointer ++ behind))
+      ∙ sym (append_assoc (chain_text ++ number) pointer behind))
+      ∙ drop_at (chain_text ++ number ++ pointer) behind 48
+      (omega (arith, length-append (chain_text ++ number) pointer, length-append chain_text number, length-number_bytes 4 (length page.records), length-pointer_bytes page.next fits.next))
 
   pub chain_page_in-chain_page_bytes : chain_page_in (chain_page_bytes page) ≡ page
   unfolding behind
@@ -121,15 +131,19 @@ module _ (page : ChainPage) (fits : FitsPage page) where
       second_of false b p = p
 
 -- one more record of those that are left
-pub parts_in-more : (count i : ℕ) (page : List ℕ) → i < count → parts_in (count - i) record_len (drop (48 + 72 * i) page) ≡ bytes_at record_len (48 + 72 * i) page ∷ parts_in (count - (i + 1)) record_len (drop (48 + 72 * (i + 1)) page)
+pub parts_in-more : (count i : ℕ) (page : List ℕ) → i < count
+    → parts_in (count - i) record_len (drop (48 + 72 * i) page) ≡ bytes_at record_len (48 + 72 * i) page ∷ parts_in
+    (count - (i + 1)) record_len (drop (48 + 72 * (i + 1)) page)
 unfolding bytes_at
 parts_in-more count i page within =
     ap (λ n. parts_in n record_len (drop (48 + 72 * i) page)) one_less
-    ∙ ap (λ (behind : List ℕ). take record_len (drop (48 + 72 * i) page) ∷ parts_in (count - (i + 1)) record_len behind) (drop-drop record_len (48 + 72 * i) page ∙ ap (λ n. drop n page) (omega arith))
+    ∙ ap (λ (behind : List ℕ). take record_len (drop (48 + 72 * i) page) ∷ parts_in (count - (i + 1)) record_len behind)
+    (drop-drop record_len (48 + 72 * i) page ∙ ap (λ n. drop n page) (omega arith))
   where
     one_less : count - i ≡ suc (count - (i + 1))
     one_less = omega (arith, within)
 
 -- a record that was pushed stands in front of those behind it
-pub pushed : (items new : List (List ℕ)) (value : List ℕ) (behind : List (List ℕ)) → new ≡ items ++ value ∷ [] → new ++ behind ≡ items ++ value ∷ behind
+pub pushed : (items new : List (List ℕ)) (value : List ℕ) (behind : List (List ℕ)) → new ≡ items ++ value ∷ []
+    → new ++ behind ≡ items ++ value ∷ behind
 pushed items new value behind is = ap (λ (all : List (List ℕ)). all ++ behind) is ∙ append_assoc items (value ∷ []) behind

@@ -30,12 +30,14 @@ AreBytes-four a b c d first second third fourth (suc (suc (suc (suc i)))) = omeg
 
 -- the four bytes of a word
 AreBytes-word : (word : ℕ) → AreBytes (to_be_bytes w32 word)
-AreBytes-word word = AreBytes-four (byte_at 3 word) (byte_at 2 word) (byte_at 1 word) (byte_at 0 word) (byte_at-lt 3 word) (byte_at-lt 2 word) (byte_at-lt 1 word) (byte_at-lt 0 word)
+AreBytes-word word = AreBytes-four (byte_at 3 word) (byte_at 2 word) (byte_at 1 word) (byte_at 0 word) (byte_at-lt 3 word)
+    (byte_at-lt 2 word) (byte_at-lt 1 word) (byte_at-lt 0 word)
 
 AreBytes-digest_bytes : (hash : List ℕ) (n : ℕ) → AreBytes (digest_bytes hash n)
 unfolding digest_bytes
 AreBytes-digest_bytes hash zero i = omega arith
-AreBytes-digest_bytes hash (suc n) i = AreBytes-append (digest_bytes hash n) (to_be_bytes w32 (slice_index hash n)) (AreBytes-digest_bytes hash n) (AreBytes-word (slice_index hash n)) i
+AreBytes-digest_bytes hash (suc n) i = AreBytes-append (digest_bytes hash n) (to_be_bytes w32 (slice_index hash n))
+    (AreBytes-digest_bytes hash n) (AreBytes-word (slice_index hash n)) i
 
 pub AreBytes-sha256 : (message : List ℕ) → AreBytes (sha256 message)
 unfolding sha256

@@ -27,22 +27,27 @@ is_open-parts sectors named place is_open =
     record { from = leb-true 32 place range.0; below = ltb-true place sectors range.1; fresh = not-true _ both.1 }
 
 -- open places are none of those that are named
-pub apart_from_named : (sectors : ℕ) (named places : List ℕ) (sector : ℕ) → list_any (λ other. other == sector) named ≡ true → AreOpen sectors named places → AllByRecursion (λ place. place ≢ sector) places
+pub apart_from_named : (sectors : ℕ) (named places : List ℕ) (sector : ℕ) → list_any (λ other. other == sector) named ≡ true
+    → AreOpen sectors named places → AllByRecursion (λ place. place ≢ sector) places
 apart_from_named sectors named [] sector found all = tt
 apart_from_named sectors named (place ∷ places) sector found all = (
-  λ same. both_ways (list_any (λ other. other == place) named) (is_open-parts sectors named place all.0).fresh (subst (λ s. list_any (λ other. other == s) named ≡ true) (sym same) found),
-  apart_from_named sectors (named ++ place ∷ []) places sector (list_any-append (λ other. other == sector) named (place ∷ []) ∙ or_left _ _ found) all.1,
+  λ same. both_ways (list_any (λ other. other == place) named) (is_open-parts sectors named place all.0).fresh
+      (subst (λ s. list_any (λ other. other == s) named ≡ true) (sym same) found),
+  apart_from_named sectors (named ++ place ∷ []) places sector
+      (list_any-append (λ other. other == sector) named (place ∷ []) ∙ or_left _ _ found) all.1,
 )
 
 -- and open places stand each once
-pub apart_from_first : (sectors : ℕ) (named : List ℕ) (place : ℕ) (places : List ℕ) → AreOpen sectors (named ++ place ∷ []) places → AllByRecursion (λ other. other ≢ place) places
+pub apart_from_first : (sectors : ℕ) (named : List ℕ) (place : ℕ) (places : List ℕ) → AreOpen sectors (named ++ place ∷ []) places
+    → AllByRecursion (λ other. other ≢ place) places
 apart_from_first sectors named place places all =
     apart_from_named sectors (named ++ place ∷ []) places place
     (list_any-append (λ other. other == place) named (place ∷ []) ∙ or_right _ _ (or_left _ _ (eq-eqb place place refl)))
     all
 
 -- open places are on the disk
-pub open_places-below : (sectors limit : ℕ) (named places : List ℕ) → sectors ≤ limit → AreOpen sectors named places → AllByRecursion (λ place. place < limit) places
+pub open_places-below : (sectors limit : ℕ) (named places : List ℕ) → sectors ≤ limit → AreOpen sectors named places
+    → AllByRecursion (λ place. place < limit) places
 open_places-below sectors limit named [] within all = tt
 open_places-below sectors limit named (place ∷ places) within all =
     let here = (is_open-parts sectors named place all.0).below in
@@ -53,21 +58,26 @@ pub open_places-distinct : (sectors : ℕ) (named places : List ℕ) → AreOpen
 unfolding IsDistinct
 open_places-distinct sectors named [] all = tt
 open_places-distinct sectors named (place ∷ places) all = (
-  all_mapped (λ other. other ≢ place) (λ other. eqb place other ≡ false) (λ other apart. ne_eqb place other (λ same. apart (sym same))) places (apart_from_first sectors named place places all.1),
+  all_mapped (λ other. other ≢ place) (λ other. eqb place other ≡ false)
+      (λ other apart. ne_eqb place other (λ same. apart (sym same))) places (apart_from_first sectors named place places all.1),
   open_places-distinct sectors (named ++ place ∷ []) places all.1,
 )
 
 -- what holds of each number of a list holds of one that is found there
-found_below : (limit : ℕ) (numbers : List ℕ) (number : ℕ) → AllByRecursion (λ n. n < limit) numbers → list_any (eqb number) numbers ≡ true → number < limit
+found_below : (limit : ℕ) (numbers : List ℕ) (number : ℕ) → AllByRecursion (λ n. n < limit) numbers → list_any (eqb number) numbers ≡ true
+    → number < limit
 found_below limit [] number all found = absurd (cc found)
 found_below limit (first ∷ numbers) number all found =
-    ⊎_elim (λ here. subst (λ n. n < limit) (sym (eqb-true number first here)) all.0) (λ behind. found_below limit numbers number all.1 behind) (or_cases (eqb number first) (list_any (eqb number) numbers) found)
+    ⊎_elim (λ here. subst (λ n. n < limit) (sym (eqb-true number first here)) all.0)
+    (λ behind. found_below limit numbers number all.1 behind) (or_cases (eqb number first) (list_any (eqb number) numbers) found)
 
 -- so they are fewer than the sectors of the disk, of which the first is none of them
 pub open_places-fewer : (sectors : ℕ) (named places : List ℕ) → 0 < sectors → AreOpen sectors named places → length places < sectors
 unfolding IsDistinct
 open_places-fewer sectors named places some all =
-    let count = length-le_from_distinct_below (0 ∷ places) sectors (not_first named places all, open_places-distinct sectors named places all) (λ number. found_below sectors (0 ∷ places) number (some, open_places-below sectors sectors named places (omega arith) all)) in
+    let count = length-le_from_distinct_below (0 ∷ places) sectors
+    (not_first named places all, open_places-distinct sectors named places all)
+    (λ number. found_below sectors (0 ∷ places) number (some, open_places-below sectors sectors named places (omega arith) all)) in
     omega (arith, count)
   where
     not_first : (ns ps : List ℕ) → AreOpen sectors ns ps → AllByRecursion (λ place. eqb 0 place ≡ false) ps
@@ -84,13 +94,15 @@ is_open-from sectors named place is =
     (not_from_false _ is.fresh)
 
 -- distinct places that are each open are open one behind the other
-pub open_places-from : (sectors : ℕ) (named places : List ℕ) → AllByRecursion (IsOpen sectors named) places → IsDistinct eqb places → AreOpen sectors named places
+pub open_places-from : (sectors : ℕ) (named places : List ℕ) → AllByRecursion (IsOpen sectors named) places → IsDistinct eqb places
+    → AreOpen sectors named places
 unfolding IsDistinct
 open_places-from sectors named [] all distinct = tt
 open_places-from sectors named (place ∷ places) all distinct =
     (is_open-from sectors named place all.0, open_places-from sectors (named ++ place ∷ []) places (behind places all.1 distinct.0) distinct.1)
   where
-    behind : (ps : List ℕ) → AllByRecursion (IsOpen sectors named) ps → AllByRecursion (λ other. eqb place other ≡ false) ps → AllByRecursion (IsOpen sectors (named ++ place ∷ [])) ps
+    behind : (ps : List ℕ) → AllByRecursion (IsOpen sectors named) ps → AllByRecursion (λ other. eqb place other ≡ false) ps
+        → AllByRecursion (IsOpen sectors (named ++ place ∷ [])) ps
     behind [] is apart = tt
     behind (p ∷ ps) is apart = (
       record {
@@ -102,7 +114,8 @@ open_places-from sectors named (place ∷ places) all distinct =
     )
 
 -- open places are two parts, the second open behind the first
-pub open_places-parts : (sectors : ℕ) (named first second : List ℕ) → AreOpen sectors named (first ++ second) → AreOpen sectors named first × AreOpen sectors (named ++ first) second
+pub open_places-parts : (sectors : ℕ) (named first second : List ℕ) → AreOpen sectors named (first ++ second)
+    → AreOpen sectors named first × AreOpen sectors (named ++ first) second
 open_places-parts sectors named [] second all = (tt, subst (λ (ns : List ℕ). AreOpen sectors ns second) (sym (append-nil named)) all)
 open_places-parts sectors named (place ∷ first) second all =
     let parts = open_places-parts sectors (named ++ place ∷ []) first second all.1 in

@@ -17,7 +17,8 @@ length-pointer_bytes pointer fits =
     omega (arith, length-append (number_bytes 8 pointer.sector) pointer.digest, length-number_bytes 8 pointer.sector, fits.digest_len)
 
 -- a pointer that fits is read back, whatever follows it
-pub pointer_in-pointer_bytes : (pointer : PagePtr) (rest : List ℕ) → FitsPointer pointer → pointer_in (pointer_bytes pointer ++ rest) ≡ pointer
+pub pointer_in-pointer_bytes : (pointer : PagePtr) (rest : List ℕ) → FitsPointer pointer
+    → pointer_in (pointer_bytes pointer ++ rest) ≡ pointer
 unfolding pointer_in pointer_bytes
 pointer_in-pointer_bytes pointer rest fits =
     let number = number_bytes 8 pointer.sector in
@@ -27,7 +28,8 @@ pointer_in-pointer_bytes pointer rest fits =
     let back : bytes_at 32 8 ((number ++ pointer.digest) ++ rest) ≡ pointer.digest =
     ap (bytes_at 32 8) grouped ∙ bytes_at-behind number pointer.digest rest 8 32 (length-number_bytes 8 pointer.sector) fits.digest_len in
     let sector = number_at-is 8 0 pointer.sector ((number ++ pointer.digest) ++ rest) front fits.sector in
-    ap (λ (n : ℕ). pointer_of n (bytes_at 32 8 ((number ++ pointer.digest) ++ rest))) sector ∙ ap (λ (d : List ℕ). pointer_of pointer.sector d) back
+    ap (λ (n : ℕ). pointer_of n (bytes_at 32 8 ((number ++ pointer.digest) ++ rest))) sector
+    ∙ ap (λ (d : List ℕ). pointer_of pointer.sector d) back
 
 -- what is read fits
 pub FitsPointer-pointer_in : (bytes : List ℕ) → AreBytes bytes → 40 ≤ length bytes → FitsPointer (pointer_in bytes)
@@ -58,18 +60,23 @@ unfolding pointer_bytes number_bytes zeros
 pointer_bytes-null_pointer = refl
 
 -- pointers that fit are read back, one behind the other, whatever follows them
-pub pointers_in-flat_map : (pointers : List PagePtr) (rest : List ℕ) → AllByRecursion FitsPointer pointers → pointers_in (length pointers) (flat_map pointer_bytes pointers ++ rest) ≡ pointers
+pub pointers_in-flat_map : (pointers : List PagePtr) (rest : List ℕ) → AllByRecursion FitsPointer pointers
+    → pointers_in (length pointers) (flat_map pointer_bytes pointers ++ rest) ≡ pointers
 pointers_in-flat_map [] rest fits = refl
 pointers_in-flat_map (pointer ∷ more) rest fits =
-    let grouped : (pointer_bytes pointer ++ flat_map pointer_bytes more) ++ rest ≡ pointer_bytes pointer ++ (flat_map pointer_bytes more ++ rest) =
+    let grouped : (pointer_bytes pointer ++ flat_map pointer_bytes more) ++ rest ≡ pointer_bytes
+    pointer ++ (flat_map pointer_bytes more ++ rest) =
     append_assoc (pointer_bytes pointer) (flat_map pointer_bytes more) rest in
     let first = ap pointer_in grouped ∙ pointer_in-pointer_bytes pointer (flat_map pointer_bytes more ++ rest) fits.0 in
-    let behind = ap (drop 40) grouped ∙ drop_at (pointer_bytes pointer) (flat_map pointer_bytes more ++ rest) 40 (length-pointer_bytes pointer fits.0) in
+    let behind = ap (drop 40) grouped
+    ∙ drop_at (pointer_bytes pointer) (flat_map pointer_bytes more ++ rest) 40 (length-pointer_bytes pointer fits.0) in
     let others = ap (pointers_in (length more)) behind ∙ pointers_in-flat_map more rest fits.1 in
-    ap (λ (p : PagePtr). p ∷ pointers_in (length more) (drop 40 ((pointer_bytes pointer ++ flat_map pointer_bytes more) ++ rest))) first ∙ ap (λ (ps : List PagePtr). pointer ∷ ps) others
+    ap (λ (p : PagePtr). p ∷ pointers_in (length more) (drop 40 ((pointer_bytes pointer ++ flat_map pointer_bytes more) ++ rest))) first
+    ∙ ap (λ (ps : List PagePtr). pointer ∷ ps) others
 
 -- how long spelled pointers are
-pub length-flat_map_pointers : (pointers : List PagePtr) → AllByRecursion FitsPointer pointers → length (flat_map pointer_bytes pointers) ≡ 40 * length pointers
+pub length-flat_map_pointers : (pointers : List PagePtr) → AllByRecursion FitsPointer pointers
+    → length (flat_map pointer_bytes pointers) ≡ 40 * length pointers
 length-flat_map_pointers [] fits = refl
 length-flat_map_pointers (pointer ∷ more) fits =
     let here = length-pointer_bytes pointer fits.0 in
@@ -77,7 +84,8 @@ length-flat_map_pointers (pointer ∷ more) fits =
     omega (arith, length-append (pointer_bytes pointer) (flat_map pointer_bytes more), here, behind)
 
 -- the spelled pointers that were read are the bytes that they were read from
-pub flat_map-pointers_in : (count : ℕ) (bytes : List ℕ) → AreBytes bytes → 40 * count ≤ length bytes → flat_map pointer_bytes (pointers_in count bytes) ≡ take (40 * count) bytes
+pub flat_map-pointers_in : (count : ℕ) (bytes : List ℕ) → AreBytes bytes → 40 * count ≤ length bytes
+    → flat_map pointer_bytes (pointers_in count bytes) ≡ take (40 * count) bytes
 flat_map-pointers_in zero bytes fits within = refl
 flat_map-pointers_in (suc count) bytes fits within =
     let first = pointer_bytes-pointer_in bytes fits (omega arith) in

@@ -13,7 +13,8 @@ use Rattle.page_tree.specs.Readers.{HasWalked}
 use Rattle.page_tree.specs.declared.pointer.PagePtr.{PagePtr}
 
 -- the walk from the root is what was read so far, and then the walk from here on
-pub record Continues (image : Image) (sectors : ℕ) (whole : Option Walked) (most : ℕ) (named : List ℕ) (old new : List (List ℕ)) (pointer : PagePtr) : Type 0 where
+pub record Continues (image : Image) (sectors : ℕ) (whole : Option Walked) (most : ℕ) (named : List ℕ) (old new : List (List ℕ))
+    (pointer : PagePtr) : Type 0 where
   pub records : List (List ℕ)
   pub appended : new ≡ old ++ records
   pub same : whole ≡ behind_records records (walk most image sectors named pointer)
@@ -22,12 +23,15 @@ behind_none : (walked : Option Walked) → behind_records [] walked ≡ walked
 behind_none None = refl
 behind_none (Some walked) = refl
 
-behind_twice : (first second : List (List ℕ)) (walked : Option Walked) → behind_records first (behind_records second walked) ≡ behind_records (first ++ second) walked
+behind_twice : (first second : List (List ℕ)) (walked : Option Walked)
+    → behind_records first (behind_records second walked) ≡ behind_records (first ++ second) walked
 behind_twice first second None = refl
-behind_twice first second (Some walked) = ap (λ (records : List (List ℕ)). Some (record walked { records = records })) (sym (append_assoc first second walked.records))
+behind_twice first second (Some walked) = ap (λ (records : List (List ℕ)). Some (record walked { records = records }))
+    (sym (append_assoc first second walked.records))
 
 -- at the root
-pub told_start : (told : Option Image) (sectors : ℕ) (named : List ℕ) (out : List (List ℕ)) (root : Option PagePtr) → IfSome told (λ image. Continues image sectors (chain_in image sectors named root) sectors named out out (pointer_or_null root))
+pub told_start : (told : Option Image) (sectors : ℕ) (named : List ℕ) (out : List (List ℕ)) (root : Option PagePtr)
+    → IfSome told (λ image. Continues image sectors (chain_in image sectors named root) sectors named out out (pointer_or_null root))
 told_start None sectors named out root = tt
 told_start (Some image) sectors named out root = record {
   records = [];
@@ -40,7 +44,8 @@ module _ (sectors most : ℕ) (whole : Image → Option Walked) (named : List �
   So told left = IfSome told (λ image. Continues image sectors (whole image) left named old new pointer)
 
   -- at the null pointer the walk has ended
-  pub told_end : (told : Option Image) → So told (suc most) → is_null pointer ≡ true → IfSome told (λ image. HasWalked (whole image) named old new)
+  pub told_end : (told : Option Image) → So told (suc most) → is_null pointer ≡ true
+      → IfSome told (λ image. HasWalked (whole image) named old new)
   told_end None so null = tt
   told_end (Some image) so null = (
     so.records ++ [],
@@ -51,35 +56,46 @@ module _ (sectors most : ℕ) (whole : Image → Option Walked) (named : List �
       further : Option Walked
       further =
           if is_open_to sectors named pointer.sector && holds_page image pointer
-          then behind_records (chain_page_in (sector_at image pointer.sector)).records (walk most image sectors (named ++ pointer.sector ∷ []) (next_in (sector_at image pointer.sector)))
+          then behind_records (chain_page_in (sector_at image pointer.sector)).records
+          (walk most image sectors (named ++ pointer.sector ∷ []) (next_in (sector_at image pointer.sector)))
           else None
 
   -- a page that doesn't belong there is damage
-  pub told_damage : (told : Option Image) → So told (suc most) → is_null pointer ≡ false → IfSome told (λ image. (is_open_to sectors named pointer.sector && holds_page image pointer) ≡ false) → IfSome told (λ image. whole image ≡ None)
+  pub told_damage : (told : Option Image) → So told (suc most) → is_null pointer ≡ false
+      → IfSome told (λ image. (is_open_to sectors named pointer.sector && holds_page image pointer) ≡ false)
+      → IfSome told (λ image. whole image ≡ None)
   told_damage None so some wrong = tt
   told_damage (Some image) so some wrong =
       so.same
-      ∙ ap (λ b. behind_records so.records (if b then Some (record { named = named; records = [] }) else further (is_open_to sectors named pointer.sector && holds_page image pointer))) some
+      ∙ ap (λ b. behind_records so.records
+      (if b then Some (record { named = named; records = [] }) else further
+      (is_open_to sectors named pointer.sector && holds_page image pointer))) some
       ∙ ap (λ b. behind_records so.records (further b)) wrong
     where
       further : Bool → Option Walked
       further b =
-          if b then behind_records (chain_page_in (sector_at image pointer.sector)).records (walk most image sectors (named ++ pointer.sector ∷ []) (next_in (sector_at image pointer.sector)))
+          if b then behind_records (chain_page_in (sector_at image pointer.sector)).records
+          (walk most image sectors (named ++ pointer.sector ∷ []) (next_in (sector_at image pointer.sector)))
           else None
 
 -- with a page that belongs there the walk goes on
-pub told_step : (told : Option Image) (sectors most : ℕ) (whole : Image → Option Walked) (named : List ℕ) (old new more : List (List ℕ)) (pointer : PagePtr) (page : List ℕ)
-    → IfSome told (λ image. Continues image sectors (whole image) (suc most) named old new pointer) → is_null pointer ≡ false → is_open_to sectors named pointer.sector ≡ true → Gives told pointer.sector page
+pub told_step : (told : Option Image) (sectors most : ℕ) (whole : Image → Option Walked) (named : List ℕ) (old new more : List (List ℕ))
+    (pointer : PagePtr) (page : List ℕ)
+    → IfSome told (λ image. Continues image sectors (whole image) (suc most) named old new pointer) → is_null pointer ≡ false
+    → is_open_to sectors named pointer.sector ≡ true → Gives told pointer.sector page
     → bytes_eq (sha256 page) pointer.digest ≡ true → is_chain_page page ≡ true → more ≡ new ++ (chain_page_in page).records
     → IfSome told (λ image. Continues image sectors (whole image) most (named ++ pointer.sector ∷ []) old more (next_in page))
 told_step None sectors most whole named old new more pointer page so some is_open gives digest form taken = tt
 told_step (Some image) sectors most whole named old new more pointer page so some is_open gives digest form taken =
     record {
       records = so.records ++ (chain_page_in page).records;
-      appended = taken ∙ ap (λ (r : List (List ℕ)). r ++ (chain_page_in page).records) so.appended ∙ append_assoc old so.records (chain_page_in page).records;
+      appended = taken ∙ ap (λ (r : List (List ℕ)). r ++ (chain_page_in page).records) so.appended
+          ∙ append_assoc old so.records (chain_page_in page).records;
       same =
           so.same
-          ∙ ap (λ b. behind_records so.records (if b then Some (record { named = named; records = [] }) else further (is_open_to sectors named pointer.sector && holds_page image pointer) (sector_at image pointer.sector))) some
+          ∙ ap (λ b. behind_records so.records
+          (if b then Some (record { named = named; records = [] }) else further
+          (is_open_to sectors named pointer.sector && holds_page image pointer) (sector_at image pointer.sector))) some
           ∙ ap (λ b. behind_records so.records (further b (sector_at image pointer.sector))) belongs
           ∙ ap (λ (bytes : List ℕ). behind_records so.records (further true bytes)) gives
           ∙ behind_twice so.records (chain_page_in page).records (walk most image sectors (named ++ pointer.sector ∷ []) (next_in page));
@@ -101,15 +117,18 @@ told_step (Some image) sectors most whole named old new more pointer page so som
         both _ _ _ is_open (ap (λ (bytes : List ℕ). bytes_eq (sha256 bytes) pointer.digest) gives ∙ digest) (ap is_chain_page gives ∙ form)
 
 -- a page in a sector where none may lie, or without its digest, or without the form, is damage
-pub told_closed : (told : Option Image) (sectors : ℕ) (named : List ℕ) (pointer : PagePtr) → is_open_to sectors named pointer.sector ≡ false → IfSome told (λ image. (is_open_to sectors named pointer.sector && holds_page image pointer) ≡ false)
+pub told_closed : (told : Option Image) (sectors : ℕ) (named : List ℕ) (pointer : PagePtr) → is_open_to sectors named pointer.sector ≡ false
+    → IfSome told (λ image. (is_open_to sectors named pointer.sector && holds_page image pointer) ≡ false)
 told_closed None sectors named pointer closed = tt
 told_closed (Some image) sectors named pointer closed = ap (λ b. b && holds_page image pointer) closed
 
-pub told_wrong : (told : Option Image) (sectors : ℕ) (named : List ℕ) (pointer : PagePtr) (page : List ℕ) → Gives told pointer.sector page → (bytes_eq (sha256 page) pointer.digest && is_chain_page page) ≡ false
+pub told_wrong : (told : Option Image) (sectors : ℕ) (named : List ℕ) (pointer : PagePtr) (page : List ℕ) → Gives told pointer.sector page
+    → (bytes_eq (sha256 page) pointer.digest && is_chain_page page) ≡ false
     → IfSome told (λ image. (is_open_to sectors named pointer.sector && holds_page image pointer) ≡ false)
 told_wrong None sectors named pointer page gives wrong = tt
 told_wrong (Some image) sectors named pointer page gives wrong =
-    either (is_open_to sectors named pointer.sector) _ (ap (λ (bytes : List ℕ). bytes_eq (sha256 bytes) pointer.digest && is_chain_page bytes) gives ∙ wrong)
+    either (is_open_to sectors named pointer.sector) _
+    (ap (λ (bytes : List ℕ). bytes_eq (sha256 bytes) pointer.digest && is_chain_page bytes) gives ∙ wrong)
   where
     either : (a b : Bool) → b ≡ false → (a && b) ≡ false
     either true b p = p

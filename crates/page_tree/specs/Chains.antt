@@ -44,7 +44,8 @@ next_in bytes = pointer_in (drop 8 bytes)
 -- whether bytes are a page of a chain: the text, a number of records from 1 to 56, and 56 where another page follows
 unfoldable pub is_chain_page : List ℕ → Bool
 is_chain_page bytes =
-    bytes_eq (take 4 bytes) chain_text && nat_le 1 (count_in bytes) && nat_le (count_in bytes) page_records && (is_null (next_in bytes) || (count_in bytes == page_records))
+    bytes_eq (take 4 bytes) chain_text && nat_le 1 (count_in bytes) && nat_le
+    (count_in bytes) page_records && (is_null (next_in bytes) || (count_in bytes == page_records))
 
 -- the page that bytes spell
 abbrev pub chain_page_in : List ℕ → ChainPage
@@ -71,7 +72,8 @@ is_open_to sectors named sector = nat_le 32 sector && nat_lt sector sectors && n
 
 -- whether a sector holds the page of this pointer, and it has the form
 abbrev pub holds_page : Image → PagePtr → Bool
-holds_page image pointer = bytes_eq (sha256 (sector_at image pointer.sector)) pointer.digest && is_chain_page (sector_at image pointer.sector)
+holds_page image pointer = bytes_eq (sha256 (sector_at image pointer.sector)) pointer.digest && is_chain_page
+    (sector_at image pointer.sector)
 
 -- the walk of a chain over so many pages at the most; nothing where the chain is damaged
 abbrev pub walk : (most : ℕ) → Image → (sectors : ℕ) → (named : List ℕ) → PagePtr → Option Walked
@@ -79,7 +81,8 @@ walk zero image sectors named pointer = None
 walk (suc most) image sectors named pointer =
     if is_null pointer then Some (record { named = named; records = [] })
     else (if is_open_to sectors named pointer.sector && holds_page image pointer
-    then behind_records (chain_page_in (sector_at image pointer.sector)).records (walk most image sectors (named ++ pointer.sector ∷ []) (next_in (sector_at image pointer.sector)))
+    then behind_records (chain_page_in (sector_at image pointer.sector)).records
+    (walk most image sectors (named ++ pointer.sector ∷ []) (next_in (sector_at image pointer.sector)))
     else None)
 
 -- the chain of a root on a disk of so many sectors; its pages are fewer than these

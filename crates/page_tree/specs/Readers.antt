@@ -12,4 +12,5 @@ pub record LacksDigest (told : Option Image) (pointer : PagePtr) (sector : ℕ) 
 
 -- a walk came to its end with these sectors named, and its records behind those that there were
 abbrev pub HasWalked : Option Walked → (named : List ℕ) → (old new : List (List ℕ)) → Type 0
-HasWalked walked named old new = (records : List (List ℕ)) × (walked ≡ Some (record { named = named; records = records })) × (new ≡ old ++ records)
+HasWalked walked named old new = (records : List (List ℕ)) × (walked ≡ Some (record { named = named; records = records }))
+    × (new ≡ old ++ records)

@@ -13,12 +13,14 @@ same_seal : (a b : Seal) → Some a ≡ Some b → a ≡ b
 same_seal a b same = ap (λ (o : Option Seal). unwrap_or o a) same
 
 -- the higher of two is one of them, and no lower than the other
-higher_is : (x y : Option Seal) (a : Seal) → higher x y ≡ Some a → ((x ≡ Some a) × IfSome y (λ b. b.group ≤ a.group)) ⊎ ((y ≡ Some a) × IfSome x (λ b. b.group < a.group))
+higher_is : (x y : Option Seal) (a : Seal) → higher x y ≡ Some a
+    → ((x ≡ Some a) × IfSome y (λ b. b.group ≤ a.group)) ⊎ ((y ≡ Some a) × IfSome x (λ b. b.group < a.group))
 higher_is None y a is = inr (is, tt)
 higher_is (Some b) None a is = inl (is, tt)
 higher_is (Some b) (Some c) a is = by_test (nat_lt b.group c.group) refl is
   where
-    by_test : (t : Bool) → nat_lt b.group c.group ≡ t → (if t then Some c else Some b) ≡ Some a → ((Some b ≡ Some a) × (c.group ≤ a.group)) ⊎ ((Some c ≡ Some a) × (b.group < a.group))
+    by_test : (t : Bool) → nat_lt b.group c.group ≡ t → (if t then Some c else Some b) ≡ Some a
+        → ((Some b ≡ Some a) × (c.group ≤ a.group)) ⊎ ((Some c ≡ Some a) × (b.group < a.group))
     by_test true less same =
         let here : c.group ≡ a.group = ap (λ (s : Seal). s.group) (same_seal c a same) in
         inr (same, below b.group c.group a.group less here)
@@ -69,7 +71,8 @@ module _ (seals : ℕ → Option Seal) where
           by_test false none = absurd (cc none)
 
   -- and none is of a higher group
-  pub none_higher : (count : ℕ) (a : Seal) → highest seals count ≡ Some a → (slot : ℕ) → slot < count → IfSome (seals slot) (λ b. b.group ≤ a.group)
+  pub none_higher : (count : ℕ) (a : Seal) → highest seals count ≡ Some a → (slot : ℕ) → slot < count
+      → IfSome (seals slot) (λ b. b.group ≤ a.group)
   none_higher zero a is slot within = absurd (omega (arith, within))
   none_higher (suc count) a is slot within =
       ⊎_elim
@@ -78,8 +81,10 @@ module _ (seals : ℕ → Option Seal) where
       (λ (other : slot ≢ count). none_higher count a first.0 slot (inside within other))
       (cases_eq slot count))
       (λ last. ⊎_elim
-      (λ (here : slot ≡ count). subst (λ s. IfSome (seals s) (λ b. b.group ≤ a.group)) (sym here) (subst (λ (o : Option Seal). IfSome o (λ b. b.group ≤ a.group)) (sym last.0) (omega arith)))
-      (λ (other : slot ≢ count). lower (highest seals count) refl (λ best some. none_higher count best some slot (inside within other)) (λ none. all_none count none slot (inside within other)) last.1)
+      (λ (here : slot ≡ count). subst (λ s. IfSome (seals s) (λ b. b.group ≤ a.group)) (sym here)
+      (subst (λ (o : Option Seal). IfSome o (λ b. b.group ≤ a.group)) (sym last.0) (omega arith)))
+      (λ (other : slot ≢ count). lower (highest seals count) refl (λ best some. none_higher count best some slot (inside within other))
+      (λ none. all_none count none slot (inside within other)) last.1)
       (cases_eq slot count))
       (higher_is (highest seals count) (seals count) a is)
     where
@@ -90,18 +95,23 @@ module _ (seals : ℕ → Option Seal) where
       no_more None x y le lt = tt
       no_more (Some b) x y le lt = omega (arith, le, lt)
 
-      lower : (o : Option Seal) → highest seals count ≡ o → ((best : Seal) → highest seals count ≡ Some best → IfSome (seals slot) (λ b. b.group ≤ best.group)) → (highest seals count ≡ None → seals slot ≡ None) → IfSome o (λ b. b.group < a.group)
+      lower : (o : Option Seal) → highest seals count ≡ o
+          → ((best : Seal) → highest seals count ≡ Some best → IfSome (seals slot) (λ b. b.group ≤ best.group))
+          → (highest seals count ≡ None → seals slot ≡ None) → IfSome o (λ b. b.group < a.group)
           → IfSome (seals slot) (λ b. b.group ≤ a.group)
       lower None none earlier nothing less = subst (λ (o : Option Seal). IfSome o (λ b. b.group ≤ a.group)) (sym (nothing none)) tt
       lower (Some best) some earlier nothing less = no_more (seals slot) best.group a.group (earlier best some) less
 
   -- the one that every other is below
-  pub alone_highest : (count slot : ℕ) (a : Seal) → slot < count → seals slot ≡ Some a → ((other : ℕ) → other < count → other ≢ slot → IfSome (seals other) (λ b. b.group < a.group)) → highest seals count ≡ Some a
+  pub alone_highest : (count slot : ℕ) (a : Seal) → slot < count → seals slot ≡ Some a
+      → ((other : ℕ) → other < count → other ≢ slot → IfSome (seals other) (λ b. b.group < a.group)) → highest seals count ≡ Some a
   alone_highest zero slot a within is below = absurd (omega (arith, within))
   alone_highest (suc count) slot a within is below =
       ⊎_elim
       (λ (here : slot ≡ count). over (highest seals count) refl (subst (λ s. seals s ≡ Some a) here is) here)
-      (λ (other : slot ≢ count). under (seals count) (alone_highest count slot a (inside within other) is (λ o w differs. below o (omega (arith, w)) differs)) (below count (omega arith) (λ same. other (sym same))))
+      (λ (other : slot ≢ count). under (seals count)
+      (alone_highest count slot a (inside within other) is (λ o w differs. below o (omega (arith, w)) differs))
+      (below count (omega arith) (λ same. other (sym same))))
       (cases_eq slot count)
     where
       inside : slot < suc count → slot ≢ count → slot < count
@@ -109,17 +119,21 @@ module _ (seals : ℕ → Option Seal) where
 
       under : (y : Option Seal) → highest seals count ≡ Some a → IfSome y (λ b. b.group < a.group) → higher (highest seals count) y ≡ Some a
       under None first less = ap (λ (o : Option Seal). higher o None) first
-      under (Some b) first less = ap (λ (o : Option Seal). higher o (Some b)) first ∙ ap (λ t. if t then Some b else Some a) (not_less a.group b.group less)
+      under (Some b) first less = ap (λ (o : Option Seal). higher o (Some b)) first
+          ∙ ap (λ t. if t then Some b else Some a) (not_less a.group b.group less)
         where
           not_less : (x y : ℕ) → y < x → nat_lt x y ≡ false
           not_less x y lt = grind (arith, nat_tests, lt)
 
-      over : (x : Option Seal) → highest seals count ≡ x → seals count ≡ Some a → slot ≡ count → higher (highest seals count) (seals count) ≡ Some a
+      over : (x : Option Seal) → highest seals count ≡ x → seals count ≡ Some a → slot ≡ count
+          → higher (highest seals count) (seals count) ≡ Some a
       over None first last here = ap (λ (o : Option Seal). higher o (seals count)) first ∙ last
       over (Some best) first last here =
           let found = stands_in count best first in
-          let less = subst (λ (o : Option Seal). IfSome o (λ b. b.group < a.group)) found.2 (below found.0 (omega (arith, found.1)) (λ same. omega (arith, found.1, same, here))) in
-          ap (λ (o : Option Seal). higher o (seals count)) first ∙ ap (higher (Some best)) last ∙ ap (λ t. if t then Some a else Some best) (is_less best.group a.group less)
+          let less = subst (λ (o : Option Seal). IfSome o (λ b. b.group < a.group)) found.2
+          (below found.0 (omega (arith, found.1)) (λ same. omega (arith, found.1, same, here))) in
+          ap (λ (o : Option Seal). higher o (seals count)) first ∙ ap (higher (Some best)) last
+          ∙ ap (λ t. if t then Some a else Some best) (is_less best.group a.group less)
         where
           is_less : (x y : ℕ) → x < y → nat_lt x y ≡ true
           is_less x y lt = grind (arith, nat_tests, lt)
@@ -134,7 +148,8 @@ in_its_slot version slot image a is =
     through_gate true x same = same
     through_gate false x same = absurd (cc same)
 
-    of_test : (t : Bool) (seal : Seal) → ((seal.group % 16 == slot) ≡ false → t ≡ false) → (if t then Some seal else None) ≡ Some a → slot_of a.group ≡ slot
+    of_test : (t : Bool) (seal : Seal) → ((seal.group % 16 == slot) ≡ false → t ≡ false) → (if t then Some seal else None) ≡ Some a
+        → slot_of a.group ≡ slot
     of_test true seal wrong same =
         ⊎_elim
         (λ fits. ap (λ (s : Seal). s.group % 16) (sym (same_seal seal a same)) ∙ fits.1)
@@ -143,7 +158,8 @@ in_its_slot version slot image a is =
     of_test false seal wrong same = absurd (cc same)
 
     through_body : (t : Bool) (body : List ℕ) → (if t then body_seal version slot body else None) ≡ Some a → slot_of a.group ≡ slot
-    through_body true body same = of_test _ (seal_in body) (λ misfits. wrong_slot (is_body body && ((seal_in body).version == version)) _ misfits) same
+    through_body true body same = of_test _ (seal_in body)
+        (λ misfits. wrong_slot (is_body body && ((seal_in body).version == version)) _ misfits) same
       where
         wrong_slot : (b c : Bool) → c ≡ false → (b && c) ≡ false
         wrong_slot true c misfits = misfits
@@ -159,15 +175,19 @@ module _ (version slot : ℕ) (old new : Image) (within : slot < slot_count) (el
       strictly y z le ne = grind (arith, le, ne)
 
   -- the seals of the other slots, seen from the one that counted
-  others : (a : Seal) → newest version old ≡ Some a → (other : ℕ) → other < slot_count → other ≢ slot → IfSome (seal_at version new other) (λ b. b.group ≤ a.group)
+  others : (a : Seal) → newest version old ≡ Some a → (other : ℕ) → other < slot_count → other ≢ slot
+      → IfSome (seal_at version new other) (λ b. b.group ≤ a.group)
   unfolding newest
   others a is other inside differs =
-      subst (λ (o : Option Seal). IfSome o (λ b. b.group ≤ a.group)) (sym (elsewhere version other differs)) (none_higher (seal_at version old) slot_count a is other inside)
+      subst (λ (o : Option Seal). IfSome o (λ b. b.group ≤ a.group)) (sym (elsewhere version other differs))
+      (none_higher (seal_at version old) slot_count a is other inside)
 
   -- a slot that now has no seal, or one of a lower group, leaves the seal that counts
-  pub newest_stays : (a : Seal) → newest version old ≡ Some a → slot ≢ slot_of a.group → IfSome (seal_at version new slot) (λ b. b.group < a.group) → newest version new ≡ Some a
+  pub newest_stays : (a : Seal) → newest version old ≡ Some a → slot ≢ slot_of a.group
+      → IfSome (seal_at version new slot) (λ b. b.group < a.group) → newest version new ≡ Some a
   unfolding newest
-  newest_stays a is apart less = alone_highest (seal_at version new) slot_count found.0 a found.1 (elsewhere version found.0 differs ∙ found.2) below
+  newest_stays a is apart less = alone_highest (seal_at version new) slot_count found.0 a found.1
+      (elsewhere version found.0 differs ∙ found.2) below
     where
       found : (s : ℕ) × (s < slot_count) × (seal_at version old s ≡ Some a)
       found = stands_in (seal_at version old) slot_count a is
@@ -178,7 +198,8 @@ module _ (version slot : ℕ) (old new : Image) (within : slot < slot_count) (el
       differs : found.0 ≢ slot
       differs same = apart (sym (own ∙ same))
 
-      distinct : (other : ℕ) (o : Option Seal) → seal_at version new other ≡ o → other ≢ found.0 → IfSome o (λ b. b.group ≤ a.group) → IfSome o (λ b. (b.group ≤ a.group) × (b.group ≢ a.group))
+      distinct : (other : ℕ) (o : Option Seal) → seal_at version new other ≡ o → other ≢ found.0 → IfSome o (λ b. b.group ≤ a.group)
+          → IfSome o (λ b. (b.group ≤ a.group) × (b.group ≢ a.group))
       distinct other None same unlike le = tt
       distinct other (Some b) same unlike le = (le, λ groups. unlike (sym (in_its_slot version other new b same) ∙ ap slot_of groups ∙ own))
 
@@ -186,14 +207,17 @@ module _ (version slot : ℕ) (old new : Image) (within : slot < slot_count) (el
       below other inside unlike =
           ⊎_elim
           (λ (here : other ≡ slot). subst (λ s. IfSome (seal_at version new s) (λ b. b.group < a.group)) (sym here) less)
-          (λ (there : other ≢ slot). lower_group (seal_at version new other) a.group (distinct other (seal_at version new other) refl unlike (others a is other inside there)))
+          (λ (there : other ≢ slot). lower_group (seal_at version new other) a.group
+          (distinct other (seal_at version new other) refl unlike (others a is other inside there)))
           (cases_eq other slot)
 
   -- a slot that now has a seal of a higher group has the one that counts
-  pub newest_becomes : (a next : Seal) → newest version old ≡ Some a → seal_at version new slot ≡ Some next → a.group < next.group → newest version new ≡ Some next
+  pub newest_becomes : (a next : Seal) → newest version old ≡ Some a → seal_at version new slot ≡ Some next → a.group < next.group
+      → newest version new ≡ Some next
   unfolding newest
   newest_becomes a next is here more =
-      alone_highest (seal_at version new) slot_count slot next within here (λ other inside differs. raised (seal_at version new other) (others a is other inside differs))
+      alone_highest (seal_at version new) slot_count slot next within here
+      (λ other inside differs. raised (seal_at version new other) (others a is other inside differs))
     where
       raised : (o : Option Seal) → IfSome o (λ b. b.group ≤ a.group) → IfSome o (λ b. b.group < next.group)
       raised None le = tt
@@ -204,7 +228,8 @@ module _ (version slot : ℕ) (old new : Image) (within : slot < slot_count) (el
   unfolding newest
   newest_begins next none here =
       alone_highest (seal_at version new) slot_count slot next within here
-      (λ other inside differs. subst (λ (o : Option Seal). IfSome o (λ b. b.group < next.group)) (sym (elsewhere version other differs ∙ all_none (seal_at version old) slot_count none other inside)) tt)
+      (λ other inside differs. subst (λ (o : Option Seal). IfSome o (λ b. b.group < next.group))
+      (sym (elsewhere version other differs ∙ all_none (seal_at version old) slot_count none other inside)) tt)
 
   -- or still none
   pub newest_none : newest version old ≡ None → seal_at version new slot ≡ None → newest version new ≡ None
@@ -221,26 +246,32 @@ module _ (version slot : ℕ) (old new : Image) (within : slot < slot_count) (el
       every : (seals : ℕ → Option Seal) (count : ℕ) → ((other : ℕ) → other < count → seals other ≡ None) → highest seals count ≡ None
       every seals zero none_of = refl
       every seals (suc count) none_of =
-          ap (λ (o : Option Seal). higher o (seals count)) (every seals count (λ other inside. none_of other (omega (arith, inside)))) ∙ none_of count (omega arith)
+          ap (λ (o : Option Seal). higher o (seals count)) (every seals count (λ other inside. none_of other (omega (arith, inside))))
+          ∙ none_of count (omega arith)
 
 -- what counts is a valid seal
-pub newest_valid : (version : ℕ) (image : Image) → IfSome (newest version image) (λ best. seal_at version image (slot_of best.group) ≡ Some best)
+pub newest_valid : (version : ℕ) (image : Image)
+    → IfSome (newest version image) (λ best. seal_at version image (slot_of best.group) ≡ Some best)
 unfolding newest
 newest_valid version image = of_highest (highest (seal_at version image) slot_count) refl
   where
-    of_highest : (o : Option Seal) → highest (seal_at version image) slot_count ≡ o → IfSome o (λ best. seal_at version image (slot_of best.group) ≡ Some best)
+    of_highest : (o : Option Seal) → highest (seal_at version image) slot_count ≡ o
+        → IfSome o (λ best. seal_at version image (slot_of best.group) ≡ Some best)
     of_highest None same = tt
     of_highest (Some best) same =
         let found = stands_in (seal_at version image) slot_count best same in
         ap (seal_at version image) (in_its_slot version found.0 image best found.2) ∙ found.2
 
 -- and no valid seal is of a higher group
-pub newest_highest : (version slot : ℕ) (image : Image) → slot < slot_count → IfSome (seal_at version image slot) (λ seal. IsSomeAnd (newest version image) (λ best. seal.group ≤ best.group))
+pub newest_highest : (version slot : ℕ) (image : Image) → slot < slot_count
+    → IfSome (seal_at version image slot) (λ seal. IsSomeAnd (newest version image) (λ best. seal.group ≤ best.group))
 unfolding newest
 newest_highest version slot image within = of_both (highest (seal_at version image) slot_count) (seal_at version image slot) refl refl
   where
-    of_both : (o s : Option Seal) → highest (seal_at version image) slot_count ≡ o → seal_at version image slot ≡ s → IfSome s (λ seal. IsSomeAnd o (λ best. seal.group ≤ best.group))
+    of_both : (o s : Option Seal) → highest (seal_at version image) slot_count ≡ o → seal_at version image slot ≡ s
+        → IfSome s (λ seal. IsSomeAnd o (λ best. seal.group ≤ best.group))
     of_both o None same here = tt
     of_both None (Some seal) same here = absurd (cc (all_none (seal_at version image) slot_count same slot within, here))
     of_both (Some best) (Some seal) same here =
-        subst (λ (x : Option Seal). IfSome x (λ s. s.group ≤ best.group)) here (none_higher (seal_at version image) slot_count best same slot within)
+        subst (λ (x : Option Seal). IfSome x (λ s. s.group ≤ best.group)) here
+        (none_higher (seal_at version image) slot_count best same slot within)

@@ -11,14 +11,17 @@ use Rattle.uber_ring.specs.RingWrites.{SameElsewhere, GateTorn, BodyTorn}
 use Rattle.uber_ring.specs.declared.seal.Seal.{Seal}
 
 -- what stands behind a gate hangs on the body alone
-pub behind-same : (version slot : ℕ) (old new : Image) → length new ≡ length old → sector_at new (body_sector slot) ≡ sector_at old (body_sector slot) → behind version new slot ≡ behind version old slot
+pub behind-same : (version slot : ℕ) (old new : Image) → length new ≡ length old
+    → sector_at new (body_sector slot) ≡ sector_at old (body_sector slot) → behind version new slot ≡ behind version old slot
 unfolding behind
 behind-same version slot old new count body =
     ap (λ n. if nat_le fewest_sectors n then body_seal version slot (sector_at new (body_sector slot)) else None) count
     ∙ ap (λ (bytes : List ℕ). if nat_le fewest_sectors (length old) then body_seal version slot bytes else None) body
 
 -- a slot's seal hangs on its two sectors alone
-pub seal_at-same : (version slot : ℕ) (old new : Image) → length new ≡ length old → sector_at new (gate_sector slot) ≡ sector_at old (gate_sector slot) → sector_at new (body_sector slot) ≡ sector_at old (body_sector slot)
+pub seal_at-same : (version slot : ℕ) (old new : Image) → length new ≡ length old
+    → sector_at new (gate_sector slot) ≡ sector_at old (gate_sector slot)
+    → sector_at new (body_sector slot) ≡ sector_at old (body_sector slot)
     → seal_at version new slot ≡ seal_at version old slot
 unfolding seal_at
 seal_at-same version slot old new count gate body =
@@ -31,7 +34,8 @@ unfolding seal_at
 seal_at-closed version slot image closed = ap (λ shown. if shown then behind version image slot else None) closed
 
 -- an open one shows it
-pub seal_at-open : (version slot : ℕ) (image : Image) → gate_is_open image slot ≡ true → seal_at version image slot ≡ behind version image slot
+pub seal_at-open : (version slot : ℕ) (image : Image) → gate_is_open image slot ≡ true
+    → seal_at version image slot ≡ behind version image slot
 unfolding seal_at
 seal_at-open version slot image shown = ap (λ s. if s then behind version image slot else None) shown
 
@@ -46,7 +50,8 @@ small_behind version slot image small =
 
 small_seal : (version slot : ℕ) (image : Image) → length image < fewest_sectors → seal_at version image slot ≡ None
 unfolding seal_at
-small_seal version slot image small = either_way (gate_is_open image slot) (behind version image slot) (small_behind version slot image small)
+small_seal version slot image small = either_way (gate_is_open image slot) (behind version image slot)
+    (small_behind version slot image small)
   where
     either_way : (b : Bool) (seal : Option Seal) → seal ≡ None → (if b then seal else None) ≡ None
     either_way true seal none = none
@@ -57,9 +62,11 @@ either true = inl refl
 either false = inr refl
 
 module _ (slot : ℕ) (old new : Image) where
-  elsewhere : (at : ℕ) → Torn at old new → ((other : ℕ) → other ≢ slot → (gate_sector other ≢ at) × (body_sector other ≢ at)) → SameElsewhere slot old new
+  elsewhere : (at : ℕ) → Torn at old new → ((other : ℕ) → other ≢ slot → (gate_sector other ≢ at) × (body_sector other ≢ at))
+      → SameElsewhere slot old new
   elsewhere at torn apart version other differs =
-      seal_at-same version other old new torn.count (torn.others (gate_sector other) (apart other differs).0) (torn.others (body_sector other) (apart other differs).1)
+      seal_at-same version other old new torn.count (torn.others (gate_sector other) (apart other differs).0)
+      (torn.others (body_sector other) (apart other differs).1)
 
   pub torn_gate : Torn (gate_sector slot) old new → GateTorn slot old new
   torn_gate torn = record {
@@ -79,7 +86,8 @@ module _ (slot : ℕ) (old new : Image) where
   torn_body torn = record {
     torn = torn;
     elsewhere = elsewhere (body_sector slot) torn (λ other differs. ((λ same. omega (arith, same)), λ same. differs (omega (arith, same))));
-    own = λ closed version. seal_at-closed version slot new (ap is_open (torn.others (gate_sector slot) (λ same. omega (arith, same))) ∙ closed);
+    own = λ closed version. seal_at-closed version slot new
+        (ap is_open (torn.others (gate_sector slot) (λ same. omega (arith, same))) ∙ closed);
   }
 
 -- nothing is torn where nothing was written

@@ -20,7 +20,8 @@ in_slots group = mod-lt group (omega arith)
 
 module _ (sectors : ℕ) (image : Image) (is : IsImage sectors image) where
   -- a body that was written stands behind its slot's gate
-  pub behind_written : (seal : Seal) → FitsSeal seal → fewest_sectors ≤ sectors → behind seal.version (slice_set image (body_sector (slot_of seal.group)) (body_bytes seal)) (slot_of seal.group) ≡ Some seal
+  pub behind_written : (seal : Seal) → FitsSeal seal → fewest_sectors ≤ sectors
+      → behind seal.version (slice_set image (body_sector (slot_of seal.group)) (body_bytes seal)) (slot_of seal.group) ≡ Some seal
   behind_written seal fits large =
       let slot : ℕ = slot_of seal.group in
       let bytes = body_bytes seal in
@@ -40,6 +41,8 @@ module _ (sectors : ℕ) (image : Image) (is : IsImage sectors image) where
     gate_closed = ap is_open (sector_at-set image (gate_sector slot) closed_gate (omega (arith, in_ring, enough, is.count))) ∙ closes
 
     -- what stands behind a gate doesn't change with it
-    pub behind_kept : (version : ℕ) (gate : List ℕ) → behind version (slice_set image (gate_sector slot) gate) slot ≡ behind version image slot
+    pub behind_kept : (version : ℕ) (gate : List ℕ)
+        → behind version (slice_set image (gate_sector slot) gate) slot ≡ behind version image slot
     behind_kept version gate =
-        behind-same version slot image (slice_set image (gate_sector slot) gate) (length-set image (gate_sector slot) gate) (sector_at-set_other image (gate_sector slot) (body_sector slot) gate (λ same. omega (arith, same)))
+        behind-same version slot image (slice_set image (gate_sector slot) gate) (length-set image (gate_sector slot) gate)
+        (sector_at-set_other image (gate_sector slot) (body_sector slot) gate (λ same. omega (arith, same)))

@@ -6,5 +6,6 @@ use Rattle.page_tree.proofs.chain_page.chain_page_of.Given as goal
 
 abbrev pub invariant-records : goal.invariant-records
 invariant-records l =
-    (l.front.items ++ concat (drop l.record-index l.records) ≡ chain_head (record { next = l.next; records = l.records }) ++ concat l.records)
+    (l.front.items ++ concat (drop l.record-index l.records) ≡ chain_head
+    (record { next = l.next; records = l.records }) ++ concat l.records)
     × (array_vec_len l.front ≡ 48 + 72 * l.record-index)

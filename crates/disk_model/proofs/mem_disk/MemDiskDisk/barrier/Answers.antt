@@ -8,7 +8,8 @@ use Rattle.disk_model.proofs.mem_disk.MemDiskDisk.barrier.Goals as goal
 
 pub returns-clause-durable : goal.returns-clause-durable
 returns-clause-durable c =
-    settled_at_barrier (length c.self.inside.cells.items) c.self.inside.start.items c.self.inside.calls.items c.self.inside.cells.items c.self.invariant c.push.new.self.items (search rules)
+    settled_at_barrier (length c.self.inside.cells.items) c.self.inside.start.items c.self.inside.calls.items c.self.inside.cells.items
+    c.self.invariant c.push.new.self.items (search rules)
 
 pub returns-clause-crash : goal.returns-clause-crash
 returns-clause-crash c =
@@ -16,7 +17,8 @@ returns-clause-crash c =
     let start = c.self.inside.start.items in
     let later = c.push.new.self.items in
     let shrinks = left_at_barrier (length cells) start c.self.inside.calls.items cells c.self.invariant later (search rules) in
-    subst (λ (d : MemoryDisk). (left : Image) → MayLeave (length cells) (cells_after (padded (length cells) start) later) left → MayBeLeft d left) c.self.view_is shrinks
+    subst (λ (d : MemoryDisk). (left : Image) → MayLeave (length cells) (cells_after (padded (length cells) start) later) left
+    → MayBeLeft d left) c.self.view_is shrinks
 
 pub returns-clause-time : goal.returns-clause-time
 returns-clause-time c =

@@ -13,8 +13,11 @@ pub invariant_of-self-2 : goal.invariant_of-self-2
 invariant_of-self-2 c =
     let cells = c.self.inside.cells.items in
     let write : SectorWrite = record { at = c.args.at; bytes = c.args.from.now } in
-    let kept = kept_by_write (length cells) c.self.inside.start.items c.self.inside.calls.items cells c.self.invariant write c.push.new.self.items (search rules) (search rules) (search rules) in
-    subst (λ n. IsKept n c.self.inside.start.items c.push.new.self.items (slice_set cells c.args.at c.args.from.now)) (sym (length-set cells c.args.at c.args.from.now)) kept
+    let kept = kept_by_write
+    (length cells) c.self.inside.start.items c.self.inside.calls.items cells c.self.invariant write c.push.new.self.items (search rules)
+    (search rules) (search rules) in
+    subst (λ n. IsKept n c.self.inside.start.items c.push.new.self.items (slice_set cells c.args.at c.args.from.now))
+    (sym (length-set cells c.args.at c.args.from.now)) kept
 
 pub returns-clause-crash : goal.returns-clause-crash
 returns-clause-crash c =
@@ -23,10 +26,13 @@ returns-clause-crash c =
     let later = c.push.new.self.items in
     let write : SectorWrite = record { at = c.args.at; bytes = c.args.from.now } in
     let old = MayLeave (length cells) (cells_after (padded (length cells) start) c.self.inside.calls.items) in
-    let follows = left_by_write (length cells) start c.self.inside.calls.items cells c.self.invariant write later (search rules) (search rules) in
-    let as_long = subst (λ n. Follows (Torn c.args.at) old (MayLeave n (cells_after (padded n start) later))) (sym (length-set cells c.args.at c.args.from.now)) follows in
+    let follows = left_by_write (length cells) start c.self.inside.calls.items cells c.self.invariant write later (search rules)
+    (search rules) in
+    let as_long = subst (λ n. Follows (Torn c.args.at) old (MayLeave n (cells_after (padded n start) later)))
+    (sym (length-set cells c.args.at c.args.from.now)) follows in
     let new = length (slice_set cells c.args.at c.args.from.now) in
-    subst (λ (d : MemoryDisk). Follows (Torn c.args.at) (MayBeLeft d) (MayLeave new (cells_after (padded new start) later))) c.self.view_is as_long
+    subst (λ (d : MemoryDisk). Follows (Torn c.args.at) (MayBeLeft d) (MayLeave new (cells_after (padded new start) later))) c.self.view_is
+    as_long
 
 pub returns-clause-time : goal.returns-clause-time
 returns-clause-time c =
