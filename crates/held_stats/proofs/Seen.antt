@@ -1,13 +1,13 @@
 -- What the statistics see of a pool in memory is what they see of the pool that it stands for.
-use Rattle.std.proofs.Common.{◌≡◌, ◌≤◌, List, [], ◌∷◌, length, map, All, refl, sym, ap, subst, ◌∙◌, arith, true}
+use Rattle.std.proofs.Common.{◌≡◌, ◌≤◌, List, [], ◌∷◌, length, map, All, refl, sym, ap, subst, ◌∙◌, arith}
 use Rattle.std.proofs.lemmas.List.Elements.{All-map, All-nil, All-cons, All-head, All-tail}
 use Rattle.ddt_entry.specs.declared.key.Key.{Key}
 use Rattle.disk_model.specs.Images.{Image}
-use Rattle.pool_model.specs.Pool.{Pool, Pairwise}
+use Rattle.pool_model.specs.Pool.{Pool}
 use Rattle.pool_model.specs.Table.{TableState, IsTable}
 use Rattle.pool_stats.specs.References.{reference_of, AreSmall}
 use Rattle.pool_stats.specs.declared.reference.Reference.{Reference}
-use Rattle.table_state.specs.Flat.{pointer_of, stands_before}
+use Rattle.table_state.specs.Flat.{pointer_of}
 use Rattle.table_state.specs.Pools.{Held, IsHeld}
 use Rattle.table_state.specs.Sound.{IsSound}
 use Rattle.table_state.proofs.TableBack.{is_table_in}

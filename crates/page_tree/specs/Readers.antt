@@ -1,5 +1,5 @@
 -- What a reader of pages tells of a page that it doesn't give.
-use Rattle.std.specs.Prelude.{◌≡◌, ◌≢◌, ℕ, Option, IfSome, ◌+◌, List, ◌++◌, Some}
+use Rattle.std.specs.Prelude.{◌≡◌, ◌≢◌, ℕ, Option, IfSome, List, ◌++◌, Some}
 use Rattle.sha2.specs.Sha256.{sha256}
 use Rattle.disk_model.specs.Images.{Image, sector_at}
 use Rattle.page_tree.specs.declared.pointer.PagePtr.{PagePtr}

@@ -2,7 +2,6 @@
 use Rattle.std.specs.Prelude.{ℕ, List, map, Option}
 use Rattle.pool_model.specs.declared.commands.Mode.{Mode}
 use Rattle.pool_model.specs.declared.commands.PruneRule.{PruneRule}
-use Rattle.pool_model.specs.declared.commands.Item.TheVariants as items
 use Rattle.pool_model.specs.declared.answers.WriteAnswer.{WriteAnswer}
 use Rattle.pool_model.specs.declared.answers.FreeAnswer.{FreeAnswer}
 use Rattle.pool_model.specs.declared.answers.ReadAnswer.{ReadAnswer}
