@@ -1,5 +1,5 @@
 -- The row of a write by its rules: the table's rows are no faults, and put a pointer at the key's home alone.
-use Rattle.std.proofs.Common.{◌≡◌, ℕ, ◌+◌, ◌-◌, ◌^◌, ◌≤◌, Bool, true, false, cond, not, nat_lt, min, List, [], ◌∷◌, Option, Some, None}
+use Rattle.std.proofs.Common.{◌≡◌, ℕ, ◌+◌, ◌-◌, ◌≤◌, Bool, true, false, cond, not, nat_lt, List, [], ◌∷◌, Option, Some, None}
 use Rattle.std.proofs.Common.{refl, sym, ap, subst, ◌∙◌, arith, inl, inr}
 use Rattle.std.specs.List.{count_by}
 use Rattle.std.specs.Option.{option_map}
@@ -7,7 +7,6 @@ use Rattle.std.specs.Str.{bytes_eq}
 use Rattle.ddt_entry.specs.declared.key.Key.{Key}
 use Rattle.ddt_entry.specs.declared.entry.Home.{Home}
 use Rattle.ddt_entry.specs.Keys.{key_eq}
-use Rattle.disk_model.specs.Faults.{Rose}
 use Rattle.pool_model.specs.declared.answers.WriteAnswer.{WriteAnswer}
 use Rattle.pool_model.specs.declared.answers.WriteAnswer.TheVariants as written
 use Rattle.pool_model.specs.Pool.{plain, tracked}
@@ -72,14 +71,6 @@ pub quiet_counts : (before now : ℕ) (answer : WriteAnswer) → before ≤ now 
 quiet_counts before now answer later quiet =
     let none : count_by is_fault (to_write answer ∷ []) ≡ 0 = ap (λ b. 0 + cond b 1 0) quiet in
     omega (arith, later, none)
-
--- a count that rose will do for any answer
-pub rose_counts : (before now : ℕ) (answer : WriteAnswer) → Rose before now → CountsFault before now answer
-rose_counts before now answer rose =
-    elim (is_fault (to_write answer)) as (λ b. min (before + (0 + cond b 1 0)) (2 ^ 64 - 1) ≤ now) [
-      | true ↦ omega (arith, rose)
-      | false ↦ omega (arith, rose)
-    ]
 
 -- what a verified row tells
 module _ (key_of : List ℕ → Key) (content : List ℕ) (allowed : Bool) (moment : ℕ) (home : Option Home) (known : Option Known) (chosen : Row)

@@ -93,7 +93,7 @@ home_passed before last test p ps fails =
     ∙ home_now-later (left_by before last) (filter test ps)
 
 -- the home counts the pointers
-counts_all : (left : Option Home) (ts : List Pointer) (home : Home) → home_now left ts ≡ Some home → (ts ≡ [] → home.count ≡ 0)
+pub counts_all : (left : Option Home) (ts : List Pointer) (home : Home) → home_now left ts ≡ Some home → (ts ≡ [] → home.count ≡ 0)
     → length ts ≡ home.count
 counts_all left [] home is none = sym (none refl)
 counts_all left (t ∷ ts) home is none = cc is

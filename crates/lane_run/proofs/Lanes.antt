@@ -4,19 +4,20 @@ use Rattle.std.proofs.Common.{Some, None, Option, refl, sym, ap, subst, zero, su
 use Rattle.std.specs.List.{AllByRecursion, count_by}
 use Rattle.std.proofs.lemmas.List.{map-append, take_more, length-map}
 use Rattle.std.proofs.Math.Seq.{take-length}
-use Rattle.std.proofs.lemmas.List.Sums.{fold-append, sum_by-append}
+use Rattle.std.proofs.lemmas.List.Sums.{sum_by-append}
 use Rattle.ddt_entry.specs.declared.key.Key.{Key}
 use Rattle.disk_model.specs.Images.{Image}
 use Rattle.grant_book.specs.Sectors.{AreFirstFree}
 use Rattle.pool_model.specs.declared.commands.Command.{Command}
 use Rattle.pool_model.specs.declared.answers.WriteAnswer.{WriteAnswer}
-use Rattle.pool_model.specs.Pool.{Pool, run_length}
+use Rattle.pool_model.specs.Pool.{run_length}
 use Rattle.pool_model.specs.Plain.{Act, write, read, free, Task, Reply, to_write}
 use Rattle.pool_model.specs.Mirrors.{WritesBlock, Stored, task_of, act_of}
 use Rattle.pool_model.specs.Clash.{written_by, contents_in}
-use Rattle.pool_model.specs.Command.{Opening, Turn, Course, Row, Spot, nowhere, at_home, at_fresh, is_fault, after}
-use Rattle.pool_model.specs.Group.{Standing, opening_of, opened, course_of}
+use Rattle.pool_model.specs.Command.{Turn, Course, Row, Spot, nowhere, at_home, at_fresh, is_fault, after}
+use Rattle.pool_model.specs.Group.{Standing, opening_of}
 use Rattle.pool_model.specs.Table.{counted_homes}
+use Rattle.pool_model.proofs.Laws.{course_of-append}
 use Rattle.table_state.specs.Pools.{Held}
 use Rattle.table_state.specs.Sound.{IsSound}
 use Rattle.table_state.specs.Closing.{block_places}
@@ -144,10 +145,6 @@ counts_on before now later replies answer so_far one =
     sum_by-append (λ (reply : Reply). cond (is_fault reply) 1 0) replies (to_write answer ∷ []) in
     omega (arith, so_far, one, sum)
 
-course_of-push : (opening : Opening) (pool : Pool) (fresh : List (List ℕ)) (turns : List Turn) (turn : Turn)
-    → course_of opening pool fresh (turns ++ turn ∷ []) ≡ after opening (course_of opening pool fresh turns) turn
-course_of-push opening pool fresh turns turn = fold-append (after opening) (opened pool fresh) turns (turn ∷ [])
-
 first_task : (t : Task) (content : List ℕ) → t.lane ≡ 0 → t.act ≡ write content → t ≡ write_of t.slot content
 first_task t content lane act = λ i. record { lane = lane i; slot = t.slot; act = act i }
 
@@ -232,7 +229,7 @@ module _ (told : Option Image) (key_of : List ℕ → Key) (keeps : (content : L
         (turns_from (map task_of (take (i + 1) commands))
         (replies_on held place command.slot (key_of content) content live written.chosen j)))
         ∙ ap (first_course key_of s moment fresh) turns_are
-        ∙ course_of-push (opening_of key_of s moment) s.pool (fresh ∷ replicate 15 []) turns turn in
+        ∙ course_of-append (opening_of key_of s moment) s.pool (fresh ∷ replicate 15 []) turns turn in
         subst (λ (c : Course). IsCourse key_of image held s moment others made more c) (sym whole) step
 
     is_keyed : IsKeyed command.slot (key_of content)

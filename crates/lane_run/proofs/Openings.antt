@@ -42,7 +42,7 @@ pub record IsHomeWithin (sectors group : ℕ) (home : Home) : Type 0 where
 
 -- ---- What is found is in the lists
 
-entry_has : (P : Home → Type 0) (key : Key) (entries : List Entry) (home : Home) → AllByRecursion (λ e. P e.home) entries
+pub entry_has : (P : Home → Type 0) (key : Key) (entries : List Entry) (home : Home) → AllByRecursion (λ e. P e.home) entries
     → entry_at key entries ≡ Some home → P home
 entry_has P key entries home all is = by_found (find (λ e. key_eq e.key key) entries) refl is
   where

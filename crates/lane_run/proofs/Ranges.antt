@@ -2,8 +2,7 @@
 use Rattle.std.proofs.Common.{◌≡◌, ◌⊎◌, ℕ, ◌+◌, ◌^◌, ◌<◌, ◌≤◌, ◌==◌, ◌||◌, Bool, true, false, cond, List, [], ◌∷◌, ◌++◌, length, take}
 use Rattle.std.proofs.Common.{get_or, Some, None, Option, refl, sym, ap, subst, zero, suc, ◌∙◌, arith, length-append, ⊎_elim}
 use Rattle.std.specs.Prelude.{slice_index_or, if◌then◌else◌}
-use Rattle.std.specs.List.{AllByRecursion, find, list_any, IsDistinct}
-use Rattle.std.specs.Option.{option_map}
+use Rattle.std.specs.List.{AllByRecursion, list_any, IsDistinct}
 use Rattle.std.proofs.Math.Dec.{eqb}
 use Rattle.std.proofs.lemmas.Bool.{cases_lt}
 use Rattle.std.proofs.lemmas.List.{map-append, take_more}
@@ -35,8 +34,7 @@ use Rattle.table_state.proofs.UnusedOf.{found_unused}
 use Rattle.lane_run.specs.Live.{Live, or_below, home_here, first_mode, is_taken, write_of, put_home, put_at, with_first, brought, shared, after_row, IsHomeOf, IsReady, IsSince}
 use Rattle.lane_run.proofs.Growing.{one_slot_more}
 use Rattle.lane_run.proofs.Places.{IsNew, all_more}
-use Rattle.lane_run.proofs.Openings.{found_within}
-use Rattle.lane_run.proofs.Stored.{found_has}
+use Rattle.lane_run.proofs.Openings.{entry_has, found_within}
 
 -- the slots of the pool with the group's changes so far
 abbrev pub slots_now : Held → Live → List SlotRecord
@@ -71,16 +69,6 @@ pub record IsRanged (held : Held) (places : List ℕ) (start i : ℕ) (live : Li
   pub brought : HasBrought held places start i live
 
 -- ---- The homes
-
-entry_has : (P : Home → Type 0) (key : Key) (entries : List Entry) (home : Home) → AllByRecursion (λ e. P e.home) entries
-    → entry_at key entries ≡ Some home → P home
-entry_has P key entries home all is = by_found (find (λ e. key_eq e.key key) entries) refl is
-  where
-    by_found : (o : Option Entry) → find (λ e. key_eq e.key key) entries ≡ o → option_map (λ e. e.home) o ≡ Some home → P home
-    by_found None there gives = absurd (cc gives)
-    by_found (Some e) there gives =
-        let same : e.home ≡ home = cc gives in
-        subst P same (found_has (λ (x : Entry). P x.home) (λ (x : Entry). key_eq x.key key) entries e there all)
 
 -- a home that the table finds
 pub table_counted : (held : Held) (most : ℕ) → IsSound held → length held.slots ≤ most → (key : Key) (home : Home)

@@ -35,12 +35,7 @@ use Rattle.lane_run.proofs.Places.{IsNew, new_elsewhere, named_more, find_beside
 use Rattle.lane_run.proofs.Openings.{waiting_is_used, homes_match}
 use Rattle.lane_run.specs.Going.{Trusted, Stands, IsPlaced, NoOtherThere, IsCourse}
 use Rattle.lane_run.proofs.Courses.{homes_of, home_passed, home_joined, home_made, home_here-put, tracked_under, untracked_other}
-use Rattle.lane_run.proofs.Courses.{untracked_any, taken_more}
-
-counts_all : (left : Option Home) (ts : List Pointer) (home : Home) → home_now left ts ≡ Some home → (ts ≡ [] → home.count ≡ 0)
-    → length ts ≡ home.count
-counts_all left [] home is none = sym (none refl)
-counts_all left (t ∷ ts) home is none = cc is
+use Rattle.lane_run.proofs.Courses.{counts_all, untracked_any, taken_more}
 
 module _ (key_of : List ℕ → Key) (image : Image) (held : Held) (s : Standing) (moment : ℕ) (others : List (List ℕ))
     (over : StandsOver image held s) where

@@ -36,7 +36,11 @@ still_pending image old may_leave told pending = subst (λ (o : Option Image). N
 module _ (tag : ℕ) (image : Image) where
   -- whatever ended it, what is told may be what was told
   pub still_told : (status : Status) (now : Option Image) → now ≡ Some image → StaysUncreated status tag image now
-  still_told WriteFault now told = (image, told, record { shows = inl refl; outside = record { count = refl; others = λ at gate body. refl } })
+  still_told WriteFault now told = (
+    image,
+    told,
+    record { shows = inl refl; outside = record { count = refl; others = λ at gate body. refl } },
+  )
   still_told Done now told = tt
   still_told SinkFault now told = tt
   still_told Usage now told = told

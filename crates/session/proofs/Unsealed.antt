@@ -39,7 +39,8 @@ module _ (old : DiskState) (keying : Keying) (held : Held) (s : Standing) (over 
   -- a crash leaves what stands at each moment of calls that leave no more
   pub nothing_new : {new : DiskState} (rest : List Standing) → LeavesOnly old new old.may_leave
       → LeavesOnly old new (λ c. AnyStands (Holds keying.tag c) (s ∷ rest))
-  nothing_new rest run = weakened (λ c. AnyStands (Holds keying.tag c) (s ∷ rest)) run (λ c left. inl (over_leaves old held s keying.tag over tag_is c left))
+  nothing_new rest run =
+      weakened (λ c. AnyStands (Holds keying.tag c) (s ∷ rest)) run (λ c left. inl (over_leaves old held s keying.tag over tag_is c left))
 
   -- after calls that write nothing
   module _ (new : DiskState) (stays : Stays old.seen new.seen) (same : SameOutcomes old.may_leave new.may_leave) (run : LeavesOnly old new old.may_leave) where

@@ -149,9 +149,6 @@ module _ (group sectors : ℕ) (image : Image) (is : IsImage sectors image) (eno
         abbrev filled : Image
         filled = slice_set stored (body_sector slot) (body_bytes seal)
 
-        is_taken_image : IsImage sectors taken
-        is_taken_image = IsImage-torn sectors image taken (gate_sector slot) is is_taken.taking.torn
-
         torn_filled : Torn (body_sector slot) stored filled
         torn_filled = Torn-set stored (body_sector slot) (body_bytes seal) (length-body_bytes seal fits)
 

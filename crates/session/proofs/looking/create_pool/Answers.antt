@@ -11,17 +11,12 @@ returns-in-Ok-clause-created g c image told =
     (subst (λ t. IsNewPool (g.D.Disk.state c.args.disk.now) (g.D.Disk.state c.make_pool.new.disk) t image c.in-Ok._pool) c.tag.ensures (c.in-Ok.ensures.made image told))
     c.write_text.result c.write_text.ensures.cause c.write_text.ensures.text
 
-pub returns-in-Ok-clause-cause : goal.returns-in-Ok-clause-cause
-returns-in-Ok-clause-cause g c = written_cause _ _ _ [] _ _ _ _ c.in-Ok.ensures.lawful c.write_text.result c.write_text.ensures.cause
-
-pub returns-in-Ok-clause-sized : goal.returns-in-Ok-clause-sized
-returns-in-Ok-clause-sized g c unlawful = absurd (unlawful c.in-Ok.ensures.lawful)
-
 pub returns-in-Err-clause-created : goal.returns-in-Err-clause-created
 returns-in-Err-clause-created g c image told =
     creates_nothing _ _ (g.K.KeyOf.keying c.args.keyer.now).tag image _ None _ _ c.in-Err.status
     (c.in-Err.ensures.cause c.in-Err.status refl)
-    (subst (λ t. Makes (g.D.Disk.state c.args.disk.now) (g.D.Disk.state c.make_pool.new.disk) t image (Err c.in-Err.status)) c.tag.ensures (c.in-Err.ensures.made image told))
+    (subst (λ t. Makes (g.D.Disk.state c.args.disk.now) (g.D.Disk.state c.make_pool.new.disk) t image (Err c.in-Err.status))
+    c.tag.ensures (c.in-Err.ensures.made image told))
 
 pub returns-in-Err-clause-cause : goal.returns-in-Err-clause-cause
 returns-in-Err-clause-cause g c = made_cause _ _ _ [] _ _ _ _ c.in-Err.status (c.in-Err.ensures.cause c.in-Err.status refl)

@@ -26,7 +26,8 @@ returns-in-Err-clause-made g c image told =
           (λ same. ap (λ disk. (g.D.Disk.state disk).seen) (c.in-Err.ensures.unwritten (ap Err same)))
           (λ sector same. c.in-Err.ensures.whole sector (ap Err same));
       crash = not_made c.args.tag (g.D.Disk.state c.args.disk.now).sectors image _ _ told tells
-          c.requires.enough c.requires.few c.requires.none c.in-Err.fault c.crash_laws.ensures.here (c.create-made.ensures.any_moment image told)
+          c.requires.enough c.requires.few c.requires.none c.in-Err.fault c.crash_laws.ensures.here
+          (c.create-made.ensures.any_moment image told)
           (λ same quiet. c.create-made.ensures.before_the_gate image told quiet (c.in-Err.is ∙ ap Err same))
           (λ same. c.in-Err.ensures.unread_crash (ap Err same))
           (λ same d left. subst (λ disk. (g.D.Disk.state disk).may_leave d) (c.in-Err.ensures.unwritten (ap Err same)) left)
