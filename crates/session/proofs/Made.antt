@@ -14,7 +14,8 @@ use Rattle.table_state.specs.Flat.{HasNoPool}
 use Rattle.table_state.specs.Holding.{Holds}
 use Rattle.table_state.specs.Over.{StandsOver}
 use Rattle.table_state.specs.Pools.{Held, new_held}
-use Rattle.txg_sync.specs.Creating.{Creates, HasNoSeal, NoneOrNew}
+use Rattle.txg_sync.specs.Creating.{Creates, HasNoSeal}
+use Rattle.txg_sync.specs.FirstSeal.{NoneOrNew}
 use Rattle.txg_sync.specs.Stages.{LeavesBeginning, LeavesUnbegun}
 use Rattle.txg_sync.proofs.Taking.{stays_some}
 use Rattle.session.specs.Faults.{status_of}

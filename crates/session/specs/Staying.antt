@@ -2,8 +2,8 @@
 use Rattle.std.specs.Prelude.{◌≡◌, ◌⊎◌, ℕ, ⊤, length, Option, Some}
 use Rattle.disk_model.specs.Images.{Image}
 use Rattle.table_state.specs.Flat.{HasNoPool}
-use Rattle.txg_sync.specs.Creating.{NoneOrNew}
-use Rattle.txg_sync.specs.Stages.{SameOutside}
+use Rattle.txg_sync.specs.FirstSeal.{NoneOrNew}
+use Rattle.txg_sync.specs.FirstSeal.{SameOutside}
 use Rattle.session.specs.declared.status.Status.{Status}
 use Rattle.session.specs.declared.status.Status.TheVariants.{Done, Usage, BadFile, SourceFault, SinkFault, ReadFault, WriteFault, NoPool, Damaged, OutOfMemory, PoolExists, BadSize, LastGroup}
 use Rattle.session.specs.declared.words.Word.{Word}

@@ -20,7 +20,8 @@ use Rattle.table_state.specs.Holding.{Holds}
 use Rattle.table_state.specs.Pools.{new_held}
 use Rattle.table_state.proofs.Created.{new_stands_over}
 use Rattle.table_state.proofs.Held.{holds_over}
-use Rattle.txg_sync.specs.Stages.{TakingLeaves, IsTaken, SameOutside, Unbegun, Beginning, Begun}
+use Rattle.txg_sync.specs.Stages.{TakingLeaves, IsTaken, Unbegun, Beginning, Begun}
+use Rattle.txg_sync.specs.FirstSeal.{SameOutside}
 
 -- where no seal counts, no slot shows one
 none_shown : (image : Image) (slot : ℕ) → slot < slot_count → newest image_version image ≡ None → seal_at image_version image slot ≡ None

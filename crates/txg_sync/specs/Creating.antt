@@ -1,5 +1,5 @@
 -- What the creation of a pool comes to.
-use Rattle.std.specs.Prelude.{◌≡◌, ◌⊎◌, ⊤, ℕ, Option, Some, None}
+use Rattle.std.specs.Prelude.{◌≡◌, ⊤, ℕ, Option, Some, None}
 use Rattle.disk_model.specs.Images.{Image}
 use Rattle.disk_model.specs.DiskLaws.{Torn}
 use Rattle.uber_ring.specs.Ring.{gate_sector}
@@ -13,10 +13,6 @@ use Rattle.table_state.specs.Pools.{Held}
 abbrev pub HasNoSeal : Option Image → Type 0
 HasNoSeal None = ⊤
 HasNoSeal (Some image) = HasNoPool image
-
--- while the first seal is written no seal counts yet, or the image holds the new pool
-abbrev pub NoneOrNew : (tag sectors : ℕ) → Image → Type 0
-NoneOrNew tag sectors c = HasNoPool c ⊎ Holds tag c (first_standing sectors)
 
 -- a pool was created: the pool in memory is over the new one
 abbrev pub Creates : (old new : Option Image) → (sectors : ℕ) → Held → Type 0

@@ -1,3 +1,4 @@
+pub mod FirstSeal
 pub mod Creating
 pub mod Stages
 pub mod Writing

@@ -1,6 +1,6 @@
 -- What the stages of a sync leave, of told contents and after a crash.
 use Rattle.std.specs.Prelude.{◌≡◌, ◌≢◌, ◌⊎◌, ⊤, ℕ, false, List, length, slice_set, Option, Some, None}
-use Rattle.disk_model.specs.Images.{Image, sector_at}
+use Rattle.disk_model.specs.Images.{Image}
 use Rattle.disk_model.specs.DiskLaws.{IsImage, Torn}
 use Rattle.uber_ring.specs.Ring.{gate_sector, body_sector, gate_is_open, seal_at, newest}
 use Rattle.uber_ring.specs.RingWrites.{slot_of, SameElsewhere}
@@ -12,7 +12,7 @@ use Rattle.table_state.specs.Holding.{Holds}
 use Rattle.table_state.specs.Spelling.{new_seal}
 use Rattle.table_state.specs.Flat.{HasNoPool, image_version}
 use Rattle.table_state.specs.Sealed.{ChainPart}
-use Rattle.txg_sync.specs.Creating.{NoneOrNew}
+use Rattle.txg_sync.specs.FirstSeal.{NoneOrNew, SameOutside}
 use Rattle.txg_sync.specs.Writing.{IsStored}
 
 -- while a slot is taken nothing but its gate may change, and it shows the seal that it showed before, or none
@@ -34,11 +34,6 @@ Takes slot (Some image) new = (taken : Image) × (new ≡ Some taken) × IsTaken
 abbrev pub MayTake : (slot : ℕ) → (old new : Option Image) → Type 0
 MayTake slot None new = ⊤
 MayTake slot (Some image) new = (c : Image) × (new ≡ Some c) × TakingLeaves slot image c
-
--- every sector but the two of a slot is as before
-pub record SameOutside (slot : ℕ) (image c : Image) : Type 0 where
-  pub count : length c ≡ length image
-  pub others : (at : ℕ) → at ≢ gate_sector slot → at ≢ body_sector slot → sector_at c at ≡ sector_at image at
 
 -- until the gate of the first seal is written no seal counts, and only its slot changes
 pub record Unbegun (image c : Image) : Type 0 where

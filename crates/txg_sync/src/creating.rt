@@ -7,8 +7,10 @@ ghost use Rattle.pool_model.specs.declared.faults.SyncFault.TheVariants.{ReadFau
 ghost use Rattle.table_state.specs.Flat.{HasNoPool};
 ghost use Rattle.table_state.specs.Pools.{new_held};
 ghost use Rattle.table_state.specs.Sound.{IsSound};
-ghost use Rattle.txg_sync.specs.Creating.{NoneOrNew, Creates, CreatesAllButGate, HasNoSeal};
-ghost use Rattle.txg_sync.specs.Stages.{LeavesBeginning, LeavesUnbegun, SameOutside};
+ghost use Rattle.txg_sync.specs.Creating.{Creates, CreatesAllButGate, HasNoSeal};
+ghost use Rattle.txg_sync.specs.FirstSeal.{NoneOrNew};
+ghost use Rattle.txg_sync.specs.Stages.{LeavesBeginning, LeavesUnbegun};
+ghost use Rattle.txg_sync.specs.FirstSeal.{SameOutside};
 
 use crate::begin::seal_new_pool;
 use crate::syncing::told;
