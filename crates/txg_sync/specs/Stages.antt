@@ -1,5 +1,5 @@
 -- What the stages of a sync leave, of told contents and after a crash.
-use Rattle.std.specs.Prelude.{◌≡◌, ◌≢◌, ◌⊎◌, ⊤, ℕ, false, List, length, slice_set, Option, Some, None}
+use Rattle.std.specs.Prelude.{◌≡◌, ◌⊎◌, ⊤, ℕ, false, List, length, slice_set, Option, Some, None}
 use Rattle.disk_model.specs.Images.{Image}
 use Rattle.disk_model.specs.DiskLaws.{IsImage, Torn}
 use Rattle.uber_ring.specs.Ring.{gate_sector, body_sector, gate_is_open, seal_at, newest}
