@@ -5,8 +5,7 @@
 //! that can be counted afresh. A contract sees each type here as the definitions' own: a `PlainPointer`
 //! as a `Pointer`, and a `PlainPool` as a `Pool`.
 //!
-//! The session keeps its pool here until there is a disk, and `plain_run` runs whole groups over it, for
-//! tests that compare a faster body with the definitions.
+//! `plain_run` runs whole groups over it, for tests that compare a faster body with the definitions.
 #![tactic(auto)]
 
 mod pointer;

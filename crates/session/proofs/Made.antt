@@ -23,7 +23,7 @@ use Rattle.session.specs.Crashing.{MayHold}
 use Rattle.session.specs.Entries.{IsLawfulSize}
 use Rattle.session.specs.Looking.{new_on}
 use Rattle.session.specs.StageMaking.{IsNewPool, IsNotMade, MakingCrashes, Makes}
-use Rattle.session.specs.Staying.{StaysSo, StaysUncreated}
+use Rattle.session.specs.Staying.{IsAsBefore, StaysSo, StaysUncreated}
 use Rattle.session.specs.declared.status.Status.{Status}
 use Rattle.session.specs.declared.status.Status.TheVariants.{Done, Usage, BadFile, SourceFault, SinkFault, ReadFault, WriteFault, NoPool, Damaged, OutOfMemory, PoolExists, BadSize, LastGroup}
 use Rattle.session.specs.declared.words.Word.{Word}
@@ -35,29 +35,49 @@ pub still_pending : (image : Image) (old : Option Image) (may_leave : Image → 
 still_pending image old may_leave told pending = subst (λ (o : Option Image). NothingPending o may_leave) told pending
 
 module _ (tag : ℕ) (image : Image) where
-  -- whatever ended it, what is told may be what was told
-  pub still_told : (status : Status) (now : Option Image) → now ≡ Some image → StaysUncreated status tag image now
-  still_told WriteFault now told = (
+  -- whatever ended it, all may be as before
+  pub still_told : (old new : DiskState) (status : Status) → IsAsBefore image old new → StaysUncreated status tag image old new
+  still_told old new WriteFault is = (
     image,
-    told,
+    is.told,
     record { shows = inl refl; outside = record { count = refl; others = λ at gate body. refl } },
   )
-  still_told Done now told = tt
-  still_told SinkFault now told = tt
-  still_told Usage now told = told
-  still_told (BadFile line kind) now told = told
-  still_told SourceFault now told = told
-  still_told ReadFault now told = told
-  still_told NoPool now told = told
-  still_told (Damaged sector) now told = told
-  still_told OutOfMemory now told = told
-  still_told (PoolExists group) now told = told
-  still_told (BadSize n) now told = told
-  still_told (LastGroup group) now told = told
+  still_told old new Done is = tt
+  still_told old new SinkFault is = tt
+  still_told old new Usage is = is
+  still_told old new (BadFile line kind) is = is
+  still_told old new SourceFault is = is
+  still_told old new ReadFault is = is
+  still_told old new NoPool is = is
+  still_told old new (Damaged sector) is = is
+  still_told old new OutOfMemory is = is
+  still_told old new (PoolExists group) is = is
+  still_told old new (BadSize n) is = is
+  still_told old new (LastGroup group) is = is
 
-  pub still_so : (status : Status) (word : Word) (now : Option Image) → now ≡ Some image → StaysSo status word tag image now
-  still_so status Run now told = told
-  still_so status Make now told = still_told status now told
+  pub still_so : (old new : DiskState) (status : Status) (word : Word) → IsAsBefore image old new → StaysSo status word tag image old new
+  still_so old new status Run is = is
+  still_so old new status Make is = still_told old new status is
+
+  -- what is left behind calls that leave no more
+  module _ (old mid new : DiskState) (no_more : (c : Image) → mid.may_leave c → old.may_leave c) where
+    as_before : IsAsBefore image mid new → IsAsBefore image old new
+    as_before is = record { told = is.told; no_more = λ c left. no_more c (is.no_more c left) }
+
+    stays_behind : (status : Status) → StaysUncreated status tag image mid new → StaysUncreated status tag image old new
+    stays_behind WriteFault stays = stays
+    stays_behind Done stays = tt
+    stays_behind SinkFault stays = tt
+    stays_behind Usage stays = as_before stays
+    stays_behind (BadFile line kind) stays = as_before stays
+    stays_behind SourceFault stays = as_before stays
+    stays_behind ReadFault stays = as_before stays
+    stays_behind NoPool stays = as_before stays
+    stays_behind (Damaged sector) stays = as_before stays
+    stays_behind OutOfMemory stays = as_before stays
+    stays_behind (PoolExists group) stays = as_before stays
+    stays_behind (BadSize n) stays = as_before stays
+    stays_behind (LastGroup group) stays = as_before stays
 
 module _ (tag : ℕ) (image : Image) (old : DiskState) where
   -- what leaves only what stood leaves what is found to be the same
@@ -69,7 +89,7 @@ module _ (tag : ℕ) (image : Image) (old : DiskState) where
   pub not_begun : {new : DiskState} (status : Status) → new.seen ≡ Some image → LeavesOnly old new old.may_leave
       → ((c : Image) → new.may_leave c → old.may_leave c) → IsNotMade old new tag image status
   not_begun {new} status told run no_more = record {
-    stays = still_told tag image status new.seen told;
+    stays = still_told tag image old new status (record { told = told; no_more = no_more });
     crash = λ pending. record {
       stands = [];
       may_stand = inl refl;
@@ -90,16 +110,16 @@ module _ (tag : ℕ) (image : Image) (old : DiskState) where
 
   -- before a pool was begun nothing was changed
   pub made_behind : (mid new : DiskState) (result : Result Held Status) → LeavesOnly old mid old.may_leave
-      → NothingPending (Some image) mid.may_leave → Makes mid new tag image result → Makes old new tag image result
-  made_behind mid new (Ok held) run quiet made = record {
+      → ((c : Image) → mid.may_leave c → old.may_leave c) → NothingPending (Some image) mid.may_leave → Makes mid new tag image result → Makes old new tag image result
+  made_behind mid new (Ok held) run no_more quiet made = record {
     none = made.none;
     lawful = made.lawful;
     tag_is = made.tag_is;
     over = made.over;
     crash = λ pending. and_then (still_held pending (new_on image ∷ []) run) (made.crash quiet);
   }
-  made_behind mid new (Err status) run quiet made = record {
-    stays = made.stays;
+  made_behind mid new (Err status) run no_more quiet made = record {
+    stays = stays_behind tag image old mid new no_more status made.stays;
     crash = λ pending.
         let crashes = made.crash quiet in
         record {
@@ -128,20 +148,23 @@ module _ (tag sectors : ℕ) (image : Image) (old new : DiskState) (told : old.s
   while_made : LeavesOnly old new (NoneOrNew tag sectors) → LeavesOnly old new (MayHold tag image (new_on image ∷ []))
   while_made run = weakened (MayHold tag image (new_on image ∷ [])) run begun_or_none
 
-  -- what is told where the making failed
+  -- what is left where the making failed
   pub told_unmade : (fault : SyncFault) → (fault ≡ syncs.ReadFault → Stays old.seen new.seen)
+      → (fault ≡ syncs.ReadFault → (c : Image) → new.may_leave c → old.may_leave c)
       → (fault ≡ syncs.WriteFault → LeavesUnbegun old.seen new.seen) → (fault ≡ syncs.GateFault → LeavesBeginning tag old.seen new.seen)
-      → (fault ≡ syncs.Memory → new.seen ≡ old.seen) → ((sector : ℕ) → fault ≡ syncs.Damaged sector → ⊥)
-      → StaysUncreated (status_of fault) tag image new.seen
-  told_unmade syncs.ReadFault unread before at unwritten whole = stays_some image old.seen new.seen told (unread refl)
-  told_unmade syncs.WriteFault unread before at unwritten whole =
+      → (fault ≡ syncs.Memory → new.seen ≡ old.seen) → (fault ≡ syncs.Memory → (c : Image) → new.may_leave c → old.may_leave c)
+      → ((sector : ℕ) → fault ≡ syncs.Damaged sector → ⊥) → StaysUncreated (status_of fault) tag image old new
+  told_unmade syncs.ReadFault unread no_more before at unwritten none_more whole =
+      record { told = stays_some image old.seen new.seen told (unread refl); no_more = no_more refl }
+  told_unmade syncs.WriteFault unread no_more before at unwritten none_more whole =
       let left : LeavesUnbegun (Some image) new.seen = subst (λ (o : Option Image). LeavesUnbegun o new.seen) told (before refl) in
       (left.0, left.1, record { shows = inr (none, inl left.2.none); outside = left.2.outside })
-  told_unmade syncs.GateFault unread before at unwritten whole =
+  told_unmade syncs.GateFault unread no_more before at unwritten none_more whole =
       let left : LeavesBeginning tag (Some image) new.seen = subst (λ (o : Option Image). LeavesBeginning tag o new.seen) told (at refl) in
       (left.0, left.1, record { shows = inr (none, left.2.shows); outside = left.2.outside })
-  told_unmade (syncs.Damaged sector) unread before at unwritten whole = absurd (whole sector refl)
-  told_unmade syncs.Memory unread before at unwritten whole = unwritten refl ∙ told
+  told_unmade (syncs.Damaged sector) unread no_more before at unwritten none_more whole = absurd (whole sector refl)
+  told_unmade syncs.Memory unread no_more before at unwritten none_more whole =
+      record { told = unwritten refl ∙ told; no_more = none_more refl }
 
   -- what a crash leaves then
   pub not_made : (fault : SyncFault) → IsDisk new → (NothingPending (Some image) old.may_leave → LeavesOnly old new (NoneOrNew tag sectors))

@@ -52,13 +52,13 @@ module _ (old new : DiskState) (tag : ℕ) (image : Image) where
     pub not_found_at : (result : Result Held Status) (sealed : ℕ) → IsErr result → sealed ≡ 0 → Opens old new Run tag image sealed result
     not_found_at (Ok held) sealed failed none = absurd (cc failed)
     not_found_at (Err status) sealed failed none = record {
-      stays = left.told;
+      stays = record { told = left.told; no_more = left.no_more };
       crash = λ quiet. record {
         stands = [];
         may_stand = inl refl;
         crash = record {
           any_moment = still_held quiet [];
-          at_return = λ c now. inl (none, inl (inl (left.at_return quiet c now)));
+          at_return = λ c now. inl (none, inl (inl (quiet.1 c (left.no_more c now))));
         };
       };
     }
@@ -70,7 +70,7 @@ module _ (old new : DiskState) (tag : ℕ) (image : Image) where
         let s = found new tag image held there in
         let holds = holds_found new tag image held there in
         record {
-          stays = left.told;
+          stays = record { told = left.told; no_more = left.no_more };
           crash = λ quiet. record {
             stands = s ∷ [];
             may_stand = inr (s, refl, holds);
@@ -79,7 +79,7 @@ module _ (old new : DiskState) (tag : ℕ) (image : Image) where
               at_return = λ c now.
                   inr (inl (
                     group_found new tag image held there group same,
-                    inl (subst (λ i. Holds tag i s) (sym (left.at_return quiet c now)) holds),
+                    inl (subst (λ i. Holds tag i s) (sym (quiet.1 c (left.no_more c now))) holds),
                   ));
             };
           };

@@ -48,7 +48,7 @@ module _ (word : Word) (tag : ℕ) (image : Image) where
     sealed = sealed ∙ sym none;
     unwritten = Keeps-refl written;
     early = early;
-    stays = still_so tag image status word disk.seen told;
+    stays = still_so tag image disk disk status word (record { told = told; no_more = λ c left. left });
     crash = λ quiet. record {
       stands = [];
       may_stand = inl refl;

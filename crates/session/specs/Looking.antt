@@ -62,7 +62,7 @@ pub record CreationCrashes (before after : DiskState) (tag : ℕ) (image : Image
 -- a pool was created, or not; then the disk tells what it told, but where a write failed
 pub record Creates (devices : Devices) (tag : ℕ) (image : Image) (status : Status) : Type 0 where
   pub done : CreatedSo status (IsCreated devices.after tag image) devices.written devices.now
-  pub stays : StaysUncreated status tag image devices.after.seen
+  pub stays : StaysUncreated status tag image devices.before devices.after
   pub crash : NothingPending (Some image) devices.before.may_leave → CreationCrashes devices.before devices.after tag image status
 
 abbrev pub ToldSo : Status → (tag : ℕ) → Image → (written now : Option (List ℕ)) → Type 0

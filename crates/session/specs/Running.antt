@@ -92,7 +92,7 @@ pub record HasNotBegun (devices : Devices) (word : Word) (tag : ℕ) (image : Im
   pub sealed : session.sealed ≡ imported_by status
   pub unwritten : Keeps devices.written devices.now
   pub early : may_not_begin (origin status) ≡ true
-  pub stays : StaysSo status word tag image devices.after.seen
+  pub stays : StaysSo status word tag image devices.before devices.after
   pub crash : NothingPending (Some image) devices.before.may_leave
       → CrashesEarly devices.before devices.after word tag image session.sealed status
 

@@ -10,11 +10,11 @@ use Rattle.table_state.specs.Pools.{Held, IsHeld}
 use Rattle.session.specs.declared.status.Status.{Status}
 use Rattle.session.specs.declared.status.Status.TheVariants.{ReadFault, WriteFault, NoPool, Damaged, OutOfMemory}
 
--- nothing of what stands was changed, and where nothing was pending, at no moment
+-- nothing of what stands was changed, and where nothing was pending, at no moment; a crash leaves no more than before
 pub record IsLeft (old new : DiskState) (image : Image) : Type 0 where
   pub told : new.seen ≡ Some image
   pub any_moment : NothingPending (Some image) old.may_leave → LeavesOnly old new (λ c. c ≡ image)
-  pub at_return : NothingPending (Some image) old.may_leave → (c : Image) → new.may_leave c → c ≡ image
+  pub no_more : (c : Image) → new.may_leave c → old.may_leave c
 
 -- the pool in memory is the one that the image stands for, with nothing pending
 pub record IsThere (disk : DiskState) (tag : ℕ) (image : Image) (held : Held) : Type 0 where

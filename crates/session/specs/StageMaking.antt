@@ -35,7 +35,7 @@ pub record MakingCrashes (old new : DiskState) (tag : ℕ) (image : Image) (stat
 
 -- no pool was made
 pub record IsNotMade (old new : DiskState) (tag : ℕ) (image : Image) (status : Status) : Type 0 where
-  pub stays : StaysUncreated status tag image new.seen
+  pub stays : StaysUncreated status tag image old new
   pub crash : NothingPending (Some image) old.may_leave → MakingCrashes old new tag image status
 
 -- what making a pool came to, by its answer

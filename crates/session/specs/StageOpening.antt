@@ -23,7 +23,7 @@ pub record IsOpened (old new : DiskState) (word : Word) (tag : ℕ) (image : Ima
 
 -- no pool was opened
 pub record IsNotOpened (old new : DiskState) (word : Word) (tag : ℕ) (image : Image) (sealed : ℕ) (status : Status) : Type 0 where
-  pub stays : StaysSo status word tag image new.seen
+  pub stays : StaysSo status word tag image old new
   pub crash : NothingPending (Some image) old.may_leave → CrashesEarly old new word tag image sealed status
 
 -- what opening a pool came to, by its answer and by the newest group that was imported or sealed

@@ -1,6 +1,7 @@
--- What a disk tells where a session ended before its items, or created no pool, whatever was pending.
-use Rattle.std.specs.Prelude.{◌≡◌, ◌⊎◌, ℕ, ⊤, length, Option, Some}
+-- What is left of a disk where a session ended before its items, or created no pool, whatever was pending.
+use Rattle.std.specs.Prelude.{◌≡◌, ◌⊎◌, ℕ, ⊤, length, Some}
 use Rattle.disk_model.specs.Images.{Image}
+use Rattle.disk_model.specs.Crashes.{DiskState}
 use Rattle.table_state.specs.Flat.{HasNoPool}
 use Rattle.txg_sync.specs.FirstSeal.{NoneOrNew}
 use Rattle.txg_sync.specs.FirstSeal.{SameOutside}
@@ -14,14 +15,19 @@ pub record MayBeMade (tag : ℕ) (image c : Image) : Type 0 where
   pub shows : (c ≡ image) ⊎ (HasNoPool image × NoneOrNew tag (length image) c)
   pub outside : SameOutside 1 image c
 
--- where no pool was created: the image as it was, or, where a write failed, one in which the new pool may be made
-abbrev pub StaysUncreated : Status → (tag : ℕ) → Image → (now : Option Image) → Type 0
-StaysUncreated Done tag image now = ⊤
-StaysUncreated SinkFault tag image now = ⊤
-StaysUncreated WriteFault tag image now = (c : Image) × (now ≡ Some c) × MayBeMade tag image c
-StaysUncreated _ tag image now = now ≡ Some image
+-- the image is told as it was, and a crash leaves nothing that it might not have left before
+pub record IsAsBefore (image : Image) (before after : DiskState) : Type 0 where
+  pub told : after.seen ≡ Some image
+  pub no_more : (c : Image) → after.may_leave c → before.may_leave c
 
--- where no item was begun: the image as it was, or what making a new pool left
-abbrev pub StaysSo : Status → Word → (tag : ℕ) → Image → (now : Option Image) → Type 0
-StaysSo status Run tag image now = now ≡ Some image
-StaysSo status Make tag image now = StaysUncreated status tag image now
+-- where no pool was created: all is as before, or, where a write failed, an image is told in which the new pool may be made
+abbrev pub StaysUncreated : Status → (tag : ℕ) → Image → (before after : DiskState) → Type 0
+StaysUncreated Done tag image before after = ⊤
+StaysUncreated SinkFault tag image before after = ⊤
+StaysUncreated WriteFault tag image before after = (c : Image) × (after.seen ≡ Some c) × MayBeMade tag image c
+StaysUncreated _ tag image before after = IsAsBefore image before after
+
+-- where no item was begun: all is as before, or what making a new pool left
+abbrev pub StaysSo : Status → Word → (tag : ℕ) → Image → (before after : DiskState) → Type 0
+StaysSo status Run tag image before after = IsAsBefore image before after
+StaysSo status Make tag image before after = StaysUncreated status tag image before after

@@ -22,6 +22,6 @@ returns-in-Some-clause-made g c image told =
 
 pub returns-clause-made : goal.returns-clause-made
 returns-clause-made g c image told =
-    made_behind c.args.tag image _ _ _ c.seal_empty_pool.result c.newest_group.ensures.any_moment
+    made_behind c.args.tag image _ _ _ c.seal_empty_pool.result c.newest_group.ensures.any_moment c.newest_group.ensures.no_more
     (still_pending image _ _ told c.in_ok-found.ensures.durable)
     (c.seal_empty_pool.ensures.made image (stays_some image _ _ told c.newest_group.ensures.stays))

@@ -21,9 +21,11 @@ returns-in-Err-clause-made g c image told =
       stays = told_unmade c.args.tag (g.D.Disk.state c.args.disk.now).sectors image (g.D.Disk.state c.args.disk.now)
           (g.D.Disk.state c.create-made.new.disk) told tells c.requires.enough c.requires.few c.requires.none c.in-Err.fault
           (λ same. c.in-Err.ensures.unread (ap Err same))
+          (λ same. c.in-Err.ensures.unread_crash (ap Err same))
           (λ same. c.in-Err.ensures.unbegun (ap Err same))
           (λ same. c.in-Err.ensures.beginning (ap Err same))
           (λ same. ap (λ disk. (g.D.Disk.state disk).seen) (c.in-Err.ensures.unwritten (ap Err same)))
+          (λ same d left. subst (λ disk. (g.D.Disk.state disk).may_leave d) (c.in-Err.ensures.unwritten (ap Err same)) left)
           (λ sector same. c.in-Err.ensures.whole sector (ap Err same));
       crash = not_made c.args.tag (g.D.Disk.state c.args.disk.now).sectors image _ _ told tells
           c.requires.enough c.requires.few c.requires.none c.in-Err.fault c.crash_laws.ensures.here
