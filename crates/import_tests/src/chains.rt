@@ -24,10 +24,9 @@ fn read(alloc: Global, disk: &mut MemDisk, seal: &Seal) -> Result<FlatImage, Pag
 
 /// The seal over these chains, which says nothing of what they have.
 fn seal_over(pointers: [PagePtr; 6]) -> Seal {
-    Seal {
-        pointers,
-        ..new_seal(1, 2048)
-    }
+    let mut seal = new_seal(1, 2048);
+    seal.pointers = pointers;
+    seal
 }
 
 /// The fault of a read of these chains, where it fails.

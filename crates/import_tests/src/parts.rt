@@ -107,15 +107,14 @@ pub(crate) struct Sums {
 
 /// The seal of group 1 over these chains, with these sums.
 pub(crate) fn seal_of(pointers: [PagePtr; 6], sums: Sums) -> Seal {
-    Seal {
-        pointers,
-        homes: sums.homes,
-        counts: sums.counts,
-        pages: sums.pages,
-        active_changes: sums.active,
-        flushing_changes: sums.flushing,
-        ..new_seal(1, 2048)
-    }
+    let mut seal = new_seal(1, 2048);
+    seal.pointers = pointers;
+    seal.homes = sums.homes;
+    seal.counts = sums.counts;
+    seal.pages = sums.pages;
+    seal.active_changes = sums.active;
+    seal.flushing_changes = sums.flushing;
+    seal
 }
 
 /// The seal of a pool with one flagged pointer, whose parts are on pages 50 and 49.

@@ -6,6 +6,7 @@ use crate::parts::{
 };
 use ddt_entry::{Change, Sha256Key};
 use disk_model::MemDisk;
+use grant_book::SectorSet;
 use pool_import::import;
 use pool_model::Mode;
 use std::process::Abort;
@@ -13,18 +14,18 @@ use std::test::Fail;
 use table_state::{Pool, new_seal};
 use uber_ring::Seal;
 
-/// Whether a sector of a pool is used.
-fn is_used(rt: &impl Abort, pool: &Pool, sector: u64) -> bool {
-    assert!(rt; sector < pool.used.len());
-    pool.used.has(sector)
+/// Whether a sector is used.
+fn is_used(rt: &impl Abort, used: &SectorSet, sector: u64) -> bool {
+    assert!(rt; sector < used.len());
+    used.has(sector)
 }
 
 /// How many of the first 200 sectors are used, and which is the last of them.
-fn used_of(rt: &impl Abort, pool: &Pool) -> (u64, u64) {
+fn used_of(rt: &impl Abort, used: &SectorSet) -> (u64, u64) {
     let mut count = 0u64;
     let mut last = 0;
     for sector in 0..200u64 {
-        if is_used(rt, pool, sector) {
+        if is_used(rt, used, sector) {
             count = count.saturating_add(1);
             last = sector;
         }
@@ -36,7 +37,7 @@ fn used_of(rt: &impl Abort, pool: &Pool) -> (u64, u64) {
 fn assert_is_empty(rt: &impl Abort, pool: &Pool) {
     let told = (pool.slots.len(), pool.pages.len(), pool.table.zap.len());
     assert_same(rt, "the lengths", told, (0, 0, 0));
-    assert_same(rt, "the used sectors", used_of(rt, pool), (32, 31));
+    assert_same(rt, "the used sectors", used_of(rt, &pool.used), (32, 31));
 }
 
 /// Sees that a pool has the settings and the numbers of a new one.
@@ -62,7 +63,7 @@ fn assert_has_one(rt: &impl Abort, pool: &Pool) {
     assert_same(rt, "slots", pool.slots.as_slice(), slots.as_slice());
     assert_same(rt, "homes", pool.table.zap.as_slice(), homes.as_slice());
     assert_same(rt, "pages", pool.pages.as_slice(), [50, 49].as_slice());
-    assert_same(rt, "the used sectors", used_of(rt, pool), (35, 100));
+    assert_same(rt, "the used sectors", used_of(rt, &pool.used), (35, 100));
 }
 
 #[test]
@@ -98,7 +99,7 @@ fn assert_has_shared(rt: &impl Abort, pool: &Pool) {
     assert_same(rt, "slots", pool.slots.as_slice(), slots.as_slice());
     assert_same(rt, "homes", pool.table.zap.as_slice(), homes.as_slice());
     assert_same(rt, "changes", pool.table.active.len(), 2);
-    assert_same(rt, "the used sectors", used_of(rt, pool), (37, 101));
+    assert_same(rt, "the used sectors", used_of(rt, &pool.used), (37, 101));
 }
 
 #[test]
@@ -112,14 +113,13 @@ fn a_shared_and_a_waiting_home_are_imported(rt: HostRuntime) -> Result<(), Fail>
 
 /// The seal of an empty pool of group 17 with settings.
 fn with_settings() -> Seal {
-    Seal {
-        group: 17,
-        quota: 4096,
-        quota_flag: 1,
-        modes: [0, 1, 2, 1, 1, 1, 1, 1, 1, 1, 1, 1, 1, 1, 1, 2],
-        age: 3,
-        ..new_seal(1, 2048)
-    }
+    let mut seal = new_seal(1, 2048);
+    seal.group = 17;
+    seal.quota = 4096;
+    seal.quota_flag = 1;
+    seal.modes = [0, 1, 2, 1, 1, 1, 1, 1, 1, 1, 1, 1, 1, 1, 1, 2];
+    seal.age = 3;
+    seal
 }
 
 /// Sees that a pool has them.
@@ -158,12 +158,11 @@ fn of_a_flushing_log(rt: &impl Abort, disk: &mut MemDisk) -> Result<Seal, Fail> 
 
 /// A seal with a checkpoint at the first key.
 fn with_checkpoint(seal: Seal) -> Seal {
-    Seal {
-        checkpoint_flag: 1,
-        checkpoint_len: 5,
-        checkpoint_digest: [1; 32],
-        ..seal
-    }
+    let mut seal = seal;
+    seal.checkpoint_flag = 1;
+    seal.checkpoint_len = 5;
+    seal.checkpoint_digest = [1; 32];
+    seal
 }
 
 /// Sees that a pool has the logs of that one.
