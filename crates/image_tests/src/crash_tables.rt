@@ -1,3 +1,4 @@
+use crate::comparing::assert_same_at;
 use crate::crashes::{crashed, homes, slots, with_a_pointer};
 use crate::groups::{assert_holds, entry, group_of, slot};
 use crate::silent_disk::SilentDisk;
@@ -23,8 +24,8 @@ fn cut_short(
     let closed = group_of(alloc, put, made)?;
     let before = disk.inner.calls_made();
     disk.inner.fail_from(before.saturating_add(failing));
-    let answer = pool.sync(rt, alloc, &mut disk, &closed);
-    assert_eq!(rt; answer.is_ok(), failing > calls, "call {failing} fails");
+    let is_done = pool.sync(rt, alloc, &mut disk, &closed).is_ok();
+    assert_same_at(rt, "failing call", failing, is_done, failing > calls);
     Ok(disk)
 }
 

@@ -1,10 +1,10 @@
+use crate::comparing::assert_same;
 use crate::groups::{assert_holds, entry, group_of, slot};
-use crate::silent_disk::SilentDisk;
+use crate::silent_disk::{SilentDisk, small_disk};
 use crate::sound_pool::{SoundPool, created, imported};
 use ddt_entry::Entry;
-use disk_model::MemDisk;
 use pool_model::Closed;
-use std::alloc::Global;
+use std::alloc::{AllocError, Global};
 use std::process::Abort;
 use std::test::Fail;
 use table_state::SlotRecord;
@@ -39,16 +39,20 @@ pub(crate) fn with_a_pointer(
     rt: &impl Abort,
     alloc: Global,
 ) -> Result<(SilentDisk, SoundPool), Fail> {
-    let mut disk = SilentDisk {
-        inner: MemDisk::new(alloc, 2048)?,
-    };
+    let mut disk = small_disk(alloc)?;
     created(rt, alloc, &mut disk)?;
     let mut pool = imported(rt, alloc, &mut disk)?;
+    let first = one_write(alloc)?;
+    let answer = pool.sync(rt, alloc, &mut disk, &first);
+    assert_same(rt, "the first group", answer, Ok(2));
+    Ok((disk, pool))
+}
+
+/// The group that writes the first of them.
+fn one_write(alloc: Global) -> Result<Closed, AllocError> {
     let [home, _, _] = homes();
     let [held, _, _] = slots();
-    let first = group_of(alloc, &[held], &[home])?;
-    assert_eq!(rt; pool.sync(rt, alloc, &mut disk, &first), Ok(2));
-    Ok((disk, pool))
+    group_of(alloc, &[held], &[home])
 }
 
 /// The group of two writes that comes next.

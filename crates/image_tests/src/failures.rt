@@ -1,89 +1,146 @@
+use crate::comparing::{assert_same, assert_same_at};
 use crate::crashes::{assert_is_of, homes, slots, two_writes, with_a_pointer};
 use crate::groups::{assert_holds, entry, group_of};
-use crate::silent_disk::SilentDisk;
-use crate::sound_pool::{created, imported};
+use crate::silent_disk::{SilentDisk, small_disk};
+use crate::sound_pool::{SoundPool, created, imported};
 use ddt_entry::Entry;
-use disk_model::MemDisk;
-use pool_model::{ChangeList, Outcome, SyncFault};
+use pool_model::{ChangeList, Closed, Outcome, SyncFault};
 use std::alloc::Global;
 use std::process::Abort;
 use std::test::Fail;
 use table_state::Pool;
 
+/// How a sync of two writes ends of which this call fails. The ninth call is the write of the gate, and the tenth the
+/// barrier behind it.
+const FAULTS: [(u64, SyncFault); 10] = [
+    (1, SyncFault::WriteFault),
+    (2, SyncFault::WriteFault),
+    (3, SyncFault::WriteFault),
+    (4, SyncFault::WriteFault),
+    (5, SyncFault::WriteFault),
+    (6, SyncFault::WriteFault),
+    (7, SyncFault::WriteFault),
+    (8, SyncFault::WriteFault),
+    (9, SyncFault::GateFault),
+    (10, SyncFault::GateFault),
+];
+
+/// Makes a call of a disk fail, counted from the next one on.
+fn fail_call(disk: &mut SilentDisk, failing: u64) {
+    let made = disk.inner.calls_made();
+    disk.inner.fail_call(made.saturating_add(failing));
+}
+
+/// Sees that the sync of two writes ends in this fault, and leaves the pool as it was.
+fn assert_fails(
+    rt: &impl Abort,
+    alloc: Global,
+    disk: &mut SilentDisk,
+    pool: &mut SoundPool,
+    fault: SyncFault,
+) -> Result<(), Fail> {
+    let closed = two_writes(alloc)?;
+    let answer = pool.sync(rt, alloc, disk, &closed);
+    assert_same(rt, "the fault", answer, Err(fault));
+    assert_is_of(rt, alloc, pool, 2)
+}
+
+/// Sees that it does so where this call fails.
+fn assert_fails_at(
+    rt: &impl Abort,
+    alloc: Global,
+    failing: u64,
+    fault: SyncFault,
+) -> Result<(), Fail> {
+    let (mut disk, mut pool) = with_a_pointer(rt, alloc)?;
+    fail_call(&mut disk, failing);
+    assert_fails(rt, alloc, &mut disk, &mut pool, fault)
+}
+
 #[test]
 fn a_fault_is_told_as_what_it_was(rt: HostRuntime) -> Result<(), Fail> {
-    let alloc = rt.alloc();
-    let closed = two_writes(alloc)?;
-    // The ninth call is the write of the gate, and the tenth the barrier behind it.
-    for (failing, fault) in [
-        (1, SyncFault::WriteFault),
-        (2, SyncFault::WriteFault),
-        (3, SyncFault::WriteFault),
-        (4, SyncFault::WriteFault),
-        (5, SyncFault::WriteFault),
-        (6, SyncFault::WriteFault),
-        (7, SyncFault::WriteFault),
-        (8, SyncFault::WriteFault),
-        (9, SyncFault::GateFault),
-        (10, SyncFault::GateFault),
-    ] {
-        let (mut disk, mut pool) = with_a_pointer(&rt, alloc)?;
-        let made = disk.inner.calls_made();
-        disk.inner.fail_call(made.saturating_add(failing));
-        let answer = pool.sync(&rt, alloc, &mut disk, &closed);
-        assert_eq!(rt; answer, Err(fault), "call {failing} fails");
-        assert_is_of(&rt, alloc, &pool, 2)?;
+    for (failing, fault) in FAULTS {
+        assert_fails_at(&rt, rt.alloc(), failing, fault)?;
     }
+    Ok(())
+}
+
+#[test]
+fn a_read_that_fails_is_told_as_such(rt: HostRuntime) -> Result<(), Fail> {
     // The new seal has the first meter, the import the second, and the two syncs one each, whose one read is that
     // of the gate.
-    let (mut disk, mut pool) = with_a_pointer(&rt, alloc)?;
+    let (mut disk, mut pool) = with_a_pointer(&rt, rt.alloc())?;
     disk.inner.fail_reads(4, 1, 1);
-    let answer = pool.sync(&rt, alloc, &mut disk, &closed);
-    assert_eq!(rt; answer, Err(SyncFault::ReadFault));
-    assert_is_of(&rt, alloc, &pool, 2)?;
-    Ok(())
+    let fault = SyncFault::ReadFault;
+    assert_fails(&rt, rt.alloc(), &mut disk, &mut pool, fault)
 }
 
 /// An entry for each sector up to this one that a pool doesn't use.
 fn free_up_to(rt: &impl Abort, alloc: Global, pool: &Pool, last: u64) -> Result<Vec<Entry>, Fail> {
     let mut blocks = Vec::new(alloc);
     for place in 32..2048u64 {
-        assert!(rt; place < pool.used.len());
-        if place <= last && !pool.used.has(place) {
+        if place <= last && is_free(rt, pool, place) {
             blocks.push(entry(7, place, 3, 1))?;
         }
     }
     Ok(blocks)
 }
 
+/// Whether a pool doesn't use this sector.
+fn is_free(rt: &impl Abort, pool: &Pool, place: u64) -> bool {
+    assert!(rt; place < pool.used.len());
+    !pool.used.has(place)
+}
+
+/// The group that has a block in each free sector up to this one, and changes nothing.
+fn blocks_up_to(rt: &impl Abort, alloc: Global, pool: &Pool, last: u64) -> Result<Closed, Fail> {
+    let blocks = free_up_to(rt, alloc, pool, last)?;
+    let mut closed = group_of(alloc, &[], blocks.as_slice())?;
+    closed.changes = ChangeList::new(alloc);
+    Ok(closed)
+}
+
+/// Sees that a group is refused which has blocks up to this sector, before a call of the disk is made.
+fn assert_no_room(rt: &impl Abort, alloc: Global, last: u64) -> Result<(), Fail> {
+    let (mut disk, mut pool) = with_a_pointer(rt, alloc)?;
+    let closed = blocks_up_to(rt, alloc, &pool.pool, last)?;
+    let made = disk.inner.calls_made();
+    let answer = pool.sync(rt, alloc, &mut disk, &closed);
+    let refused = Err(SyncFault::Damaged(0));
+    assert_same_at(rt, "blocks up to", last, answer, refused);
+    assert_same(rt, "the calls", disk.inner.calls_made(), made);
+    assert_is_of(rt, alloc, &pool, 2)
+}
+
+/// Sees that a disk has the pool of this group, in which nothing was changed since group 2.
+fn assert_unchanged(
+    rt: &impl Abort,
+    alloc: Global,
+    disk: &mut SilentDisk,
+    group: u64,
+) -> Result<(), Fail> {
+    let found = imported(rt, alloc, disk)?;
+    let [home, _, _] = homes();
+    let [held, _, _] = slots();
+    assert_holds(rt, alloc, &found, group, &[held], &[home])
+}
+
+/// Sees that a group is synced which has blocks up to this sector.
+fn assert_has_room(rt: &impl Abort, alloc: Global, last: u64) -> Result<(), Fail> {
+    let (mut disk, mut pool) = with_a_pointer(rt, alloc)?;
+    let closed = blocks_up_to(rt, alloc, &pool.pool, last)?;
+    let answer = pool.sync(rt, alloc, &mut disk, &closed);
+    assert_same_at(rt, "blocks up to", last, answer, Ok(3));
+    assert_unchanged(rt, alloc, &mut disk, 3)
+}
+
 #[test]
 fn without_room_for_the_pages_nothing_is_written(rt: HostRuntime) -> Result<(), Fail> {
     // One page of slots and one of the active log. The group has a block in each free sector up to this one, and of
     // the 2,048 sectors the last two, the last, or none are then free.
-    let alloc = rt.alloc();
-    for (last, answer) in [
-        (2045, Ok(3)),
-        (2046, Err(SyncFault::Damaged(0))),
-        (2047, Err(SyncFault::Damaged(0))),
-    ] {
-        let (mut disk, mut pool) = with_a_pointer(&rt, alloc)?;
-        let blocks = free_up_to(&rt, alloc, &pool.pool, last)?;
-        let mut closed = group_of(alloc, &[], blocks.as_slice())?;
-        closed.changes = ChangeList::new(alloc);
-        let made = disk.inner.calls_made();
-        let given = pool.sync(&rt, alloc, &mut disk, &closed);
-        assert_eq!(rt; given, answer, "blocks up to {last}");
-        if answer.is_err() {
-            assert_eq!(rt; disk.inner.calls_made(), made);
-            assert_is_of(&rt, alloc, &pool, 2)?;
-        } else {
-            let found = imported(&rt, alloc, &mut disk)?;
-            let [home, _, _] = homes();
-            let [held, _, _] = slots();
-            assert_holds(&rt, alloc, &found, 3, &[held], &[home])?;
-        }
-    }
-    Ok(())
+    assert_has_room(&rt, rt.alloc(), 2045)?;
+    assert_no_room(&rt, rt.alloc(), 2046)?;
+    assert_no_room(&rt, rt.alloc(), 2047)
 }
 
 /// The outcome of a group of so many commands and writes for which a pool has no room.
@@ -93,44 +150,36 @@ fn lacking(rt: &impl Abort, pool: &Pool, commands: u64, writes: u64) -> Option<O
     pool.no_space(commands, writes)
 }
 
+/// Sees that an empty pool has no room for a group of so many commands and writes, which needs so many sectors.
+fn assert_lacks(rt: &impl Abort, pool: &Pool, commands: u64, writes: u64, need: u64) {
+    let outcome = Outcome::NoSpace { need, free: 2016 };
+    let told = lacking(rt, pool, commands, writes);
+    assert_same_at(rt, "the room for", commands, told, Some(outcome));
+}
+
+/// Sees that it has room for so many.
+fn assert_fits(rt: &impl Abort, pool: &Pool, commands: u64, writes: u64) {
+    let told = lacking(rt, pool, commands, writes);
+    assert_same_at(rt, "the room for", commands, told, None);
+}
+
+/// Sees which groups fit in an empty pool of 2,048 sectors: it has no pages, and 2,016 of its sectors are free.
+fn assert_rooms(rt: &impl Abort, pool: &Pool) {
+    assert_fits(rt, pool, 64, 64);
+    assert_lacks(rt, pool, 65, 65, 2027);
+    assert_fits(rt, pool, 65, 54);
+    assert_lacks(rt, pool, 66, 54, 2028);
+    assert_fits(rt, pool, 1, 0);
+    assert_same(rt, "the need", pool.need(1, 0), 398);
+}
+
 #[test]
 fn a_group_that_needs_more_than_is_free_has_no_space(rt: HostRuntime) -> Result<(), Fail> {
-    // An empty pool has no pages, and 2,016 of its 2,048 sectors are free.
-    let mut disk = SilentDisk {
-        inner: MemDisk::new(rt.alloc(), 2048)?,
-    };
+    let mut disk = small_disk(rt.alloc())?;
     let made = created(&rt, rt.alloc(), &mut disk)?;
     let pool = &made.pool;
-    assert_eq!(rt; pool.group(), 1);
-    assert_eq!(rt; pool.pages(), 0);
-    assert_eq!(rt; pool.free(), 2016);
-    for (commands, writes, outcome) in [
-        (64u64, 64u64, None),
-        (
-            65,
-            65,
-            Some(Outcome::NoSpace {
-                need: 2027,
-                free: 2016,
-            }),
-        ),
-        (65, 54, None),
-        (
-            66,
-            54,
-            Some(Outcome::NoSpace {
-                need: 2028,
-                free: 2016,
-            }),
-        ),
-        (1, 0, None),
-    ] {
-        assert_eq!(rt;
-            lacking(&rt, pool, commands, writes),
-            outcome,
-            "{commands} commands, {writes} writes"
-        );
-    }
-    assert_eq!(rt; pool.need(1, 0), 398);
+    let told = (pool.group(), pool.pages(), pool.free());
+    assert_same(&rt, "the pool", told, (1, 0, 2016));
+    assert_rooms(&rt, pool);
     Ok(())
 }

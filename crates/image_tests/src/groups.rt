@@ -1,3 +1,4 @@
+use crate::comparing::assert_same_at;
 use crate::sound_pool::SoundPool;
 use ddt_entry::{Change, Entry, Home, Key, Pointer, SlotKind};
 use pool_model::{Block, ChangeList, Closed, Contents, Mode, SlotChange, SlotChanges, StoredBlock};
@@ -90,9 +91,10 @@ pub(crate) fn assert_holds(
     entries: &[Entry],
 ) -> Result<(), Fail> {
     let pool = &sound.pool;
-    assert_eq!(rt; pool.sealed, group);
-    assert_eq!(rt; pool.slots.as_slice(), slots, "the slots of group {group}");
+    assert_same_at(rt, "the number of group", group, pool.sealed, group);
+    let held = pool.slots.as_slice();
+    assert_same_at(rt, "the slots of group", group, held, slots);
     let found = pool.table.entries_found(alloc)?;
-    assert_eq!(rt; found.as_slice(), entries, "the homes of group {group}");
+    assert_same_at(rt, "the homes of group", group, found.as_slice(), entries);
     Ok(())
 }

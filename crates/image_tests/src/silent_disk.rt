@@ -1,9 +1,17 @@
 use disk_model::{Disk, Failed, MemDisk, MemMeter};
+use std::alloc::{AllocError, Global};
 
 /// A disk in memory that doesn't tell its contents, as a file doesn't.
 #[derive(Drop)]
 pub(crate) struct SilentDisk {
     pub(crate) inner: MemDisk,
+}
+
+/// A blank disk of the fewest sectors that a pool may have.
+pub(crate) fn small_disk(alloc: Global) -> Result<SilentDisk, AllocError> {
+    Ok(SilentDisk {
+        inner: MemDisk::new(alloc, 2048)?,
+    })
 }
 
 impl Disk for SilentDisk {

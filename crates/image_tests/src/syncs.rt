@@ -1,8 +1,9 @@
+use crate::comparing::{assert_same, assert_same_at};
 use crate::groups::{assert_holds, entry, group_of, slot};
-use crate::silent_disk::SilentDisk;
+use crate::silent_disk::{SilentDisk, small_disk};
 use crate::sound_pool::{SoundPool, created, imported};
 use ddt_entry::Entry;
-use disk_model::{Disk, MemDisk};
+use disk_model::Disk;
 use pool_model::{Closed, Mode};
 use std::alloc::Global;
 use std::process::Abort;
@@ -18,15 +19,24 @@ struct Filled {
     homes: Vec<Entry>,
 }
 
+/// Creates an empty pool on a disk.
+fn create_on(rt: &impl Abort, alloc: Global, disk: &mut SilentDisk) -> Result<(), Fail> {
+    let made = created(rt, alloc, disk)?;
+    assert_holds(rt, alloc, &made, 1, &[], &[])
+}
+
+/// The empty pool that a disk has to import.
+fn empty_on(rt: &impl Abort, alloc: Global, disk: &mut SilentDisk) -> Result<SoundPool, Fail> {
+    let pool = imported(rt, alloc, disk)?;
+    assert_holds(rt, alloc, &pool, 1, &[], &[])?;
+    Ok(pool)
+}
+
 /// A new pool.
 fn new_pool(rt: &impl Abort, alloc: Global) -> Result<Filled, Fail> {
-    let mut disk = SilentDisk {
-        inner: MemDisk::new(alloc, 2048)?,
-    };
-    let made = created(rt, alloc, &mut disk)?;
-    assert_holds(rt, alloc, &made, 1, &[], &[])?;
-    let pool = imported(rt, alloc, &mut disk)?;
-    assert_holds(rt, alloc, &pool, 1, &[], &[])?;
+    let mut disk = small_disk(alloc)?;
+    create_on(rt, alloc, &mut disk)?;
+    let pool = empty_on(rt, alloc, &mut disk)?;
     Ok(Filled {
         disk,
         pool,
@@ -47,7 +57,8 @@ fn front_of(rt: &impl Abort, disk: &mut SilentDisk, place: u64) -> Result<[u8; 6
 }
 
 /// Syncs a group of these slots and entries behind what was put in before, and imports the pool, which then
-/// has to have this group's number, all slots and homes so far, and so many pages.
+/// has to have this group's number, all slots and homes so far, and so many pages. The lengths are those of the
+/// imported pool's table.
 fn put(
     rt: &impl Abort,
     alloc: Global,
@@ -56,18 +67,48 @@ fn put(
     slots: &[SlotRecord],
     homes: &[Entry],
     pages: u64,
-) -> Result<SoundPool, Fail> {
+) -> Result<[usize; 3], Fail> {
     let closed = with_settings(alloc, group, slots, homes)?;
+    note_group(filled, slots, homes)?;
+    sync_group(rt, alloc, filled, group, &closed);
+    assert_put(rt, alloc, filled, &filled.pool, group, pages)?;
+    blocks_are_there(rt, &mut filled.disk, homes)?;
+    import_put(rt, alloc, filled, &closed, group, pages)
+}
+
+/// Notes these slots and homes behind those that were put in before.
+fn note_group(filled: &mut Filled, slots: &[SlotRecord], homes: &[Entry]) -> Result<(), Fail> {
     filled.slots.extend_from_slice(slots)?;
     filled.homes.extend_from_slice(homes)?;
-    let answer = filled.pool.sync(rt, alloc, &mut filled.disk, &closed);
-    assert_eq!(rt; answer, Ok(group));
+    Ok(())
+}
+
+/// Syncs a group, which has to get this number.
+fn sync_group(rt: &impl Abort, alloc: Global, filled: &mut Filled, group: u64, closed: &Closed) {
+    let answer = filled.pool.sync(rt, alloc, &mut filled.disk, closed);
+    assert_same_at(rt, "the sync of group", group, answer, Ok(group));
+}
+
+/// Imports the pool, which has to have all that was put in so far, and the settings of this group. The lengths are
+/// those of its table.
+fn import_put(
+    rt: &impl Abort,
+    alloc: Global,
+    filled: &mut Filled,
+    closed: &Closed,
+    group: u64,
+    pages: u64,
+) -> Result<[usize; 3], Fail> {
     let again = imported(rt, alloc, &mut filled.disk)?;
     assert_put(rt, alloc, filled, &again, group, pages)?;
-    assert_put(rt, alloc, filled, &filled.pool, group, pages)?;
-    settings_are(rt, &again, &closed);
-    blocks_are_there(rt, &mut filled.disk, homes)?;
-    Ok(again)
+    settings_are(rt, &again, closed);
+    Ok(lengths(&again))
+}
+
+/// How many entries the stored table of a pool has, and how many changes its flushing and its active log.
+fn lengths(sound: &SoundPool) -> [usize; 3] {
+    let table = &sound.pool.table;
+    [table.zap.len(), table.flush.len(), table.active.len()]
 }
 
 /// The group of these slots and entries, with settings that change from group to group.
@@ -103,24 +144,36 @@ fn assert_put(
 ) -> Result<(), Fail> {
     let (slots, homes) = (filled.slots.as_slice(), filled.homes.as_slice());
     assert_holds(rt, alloc, sound, group, slots, homes)?;
-    assert_eq!(rt; sound.pool.pages.len(), pages, "the pages of group {group}");
+    let named = sound.pool.pages.len();
+    assert_same_at(rt, "the pages of group", group, named, pages);
     Ok(())
 }
 
 /// Sees that the blocks of these entries stand at their places.
 fn blocks_are_there(rt: &impl Abort, disk: &mut SilentDisk, homes: &[Entry]) -> Result<(), Fail> {
     for home in homes {
-        let byte = home.key.digest[0];
-        let front = front_of(rt, disk, home.home.place)?;
-        assert_eq!(rt; front, [byte, byte, byte, byte, byte, 0]);
+        block_is_there(rt, disk, home.home.place, home.key.digest[0])?;
     }
+    Ok(())
+}
+
+/// Sees that a block of five bytes of this value stands at this place.
+fn block_is_there(
+    rt: &impl Abort,
+    disk: &mut SilentDisk,
+    place: u64,
+    byte: u8,
+) -> Result<(), Fail> {
+    let front = front_of(rt, disk, place)?;
+    let block = [byte, byte, byte, byte, byte, 0];
+    assert_same_at(rt, "the block at", place, front, block);
     Ok(())
 }
 
 /// Sees that a pool has the settings of a group.
 fn settings_are(rt: &impl Abort, sound: &SoundPool, closed: &Closed) {
-    assert_eq!(rt; sound.pool.limit, closed.quota);
-    assert!(rt; sound.pool.modes == closed.modes);
+    assert_same(rt, "the quota", sound.pool.limit, closed.quota);
+    assert_same(rt, "the modes", sound.pool.modes, closed.modes);
 }
 
 /// 200 homes of their own keys, at places from 200 on, made by this group.
@@ -143,60 +196,87 @@ pub(crate) fn slots_for(alloc: Global, homes: &[Entry]) -> Result<Vec<SlotRecord
     Ok(slots)
 }
 
+/// Puts 200 pointers in as group 5, behind three.
+fn put_two_hundred(rt: &impl Abort, alloc: Global, filled: &mut Filled) -> Result<(), Fail> {
+    // 203 slots take 4 pages of 56, and 202 changes take 4.
+    let homes = two_hundred(alloc, 5)?;
+    let slots = slots_for(alloc, homes.as_slice())?;
+    let told = put(rt, alloc, filled, 5, slots.as_slice(), homes.as_slice(), 8)?;
+    assert_same(rt, "the table", told, [0, 0, 202]);
+    Ok(())
+}
+
+/// Puts one pointer in as group 3, and two that share a block as group 4.
+fn put_three(rt: &impl Abort, alloc: Global, filled: &mut Filled) -> Result<(), Fail> {
+    // A page of one slot, and one of one change in the active log.
+    let once = entry(1, 100, 3, 1);
+    put(rt, alloc, filled, 3, &[slot(2, 7, &once)], &[once], 2)?;
+    let twice = entry(2, 101, 4, 2);
+    let sharing = [slot(3, 65_535, &twice), slot(4, 0, &twice)];
+    put(rt, alloc, filled, 4, &sharing, &[twice], 2)?;
+    Ok(())
+}
+
 #[test]
 fn what_was_synced_is_imported(rt: HostRuntime) -> Result<(), Fail> {
     let alloc = rt.alloc();
     let mut filled = new_pool(&rt, alloc)?;
     put(&rt, alloc, &mut filled, 2, &[], &[], 0)?;
-    // A page of one slot, and one of one change in the active log.
-    let once = entry(1, 100, 3, 1);
-    put(&rt, alloc, &mut filled, 3, &[slot(2, 7, &once)], &[once], 2)?;
-    let twice = entry(2, 101, 4, 2);
-    let sharing = [slot(3, 65_535, &twice), slot(4, 0, &twice)];
-    put(&rt, alloc, &mut filled, 4, &sharing, &[twice], 2)?;
-    // 203 slots take 4 pages of 56, and 202 changes take 4.
-    let homes = two_hundred(alloc, 5)?;
-    let slots = slots_for(alloc, homes.as_slice())?;
-    let many = put(
-        &rt,
-        alloc,
-        &mut filled,
-        5,
-        slots.as_slice(),
-        homes.as_slice(),
-        8,
-    )?;
-    assert_eq!(rt; many.pool.table.active.len(), 202);
-    assert!(rt; many.pool.table.zap.is_empty());
+    put_three(&rt, alloc, &mut filled)?;
+    put_two_hundred(&rt, alloc, &mut filled)?;
     put(&rt, alloc, &mut filled, 6, &[], &[], 8)?;
+    Ok(())
+}
+
+/// How many entries and changes the table has after groups 3 to 10 that put nothing in: stored ones, flushing ones,
+/// active ones. The eighth group makes the active log the flushing one, and the ninth flushes it.
+const SWAPPED_AND_FLUSHED: [(u64, [usize; 3]); 8] = [
+    (3, [0, 0, 1]),
+    (4, [0, 0, 1]),
+    (5, [0, 0, 1]),
+    (6, [0, 0, 1]),
+    (7, [0, 0, 1]),
+    (8, [0, 0, 1]),
+    (9, [0, 1, 0]),
+    (10, [1, 0, 0]),
+];
+
+/// Puts a group in that has nothing, and sees these lengths of the table.
+fn put_nothing(
+    rt: &impl Abort,
+    alloc: Global,
+    filled: &mut Filled,
+    group: u64,
+    wanted: [usize; 3],
+) -> Result<(), Fail> {
+    let told = put(rt, alloc, filled, group, &[], &[], 2)?;
+    assert_same_at(rt, "the table after group", group, told, wanted);
+    Ok(())
+}
+
+/// Sees that the pool that is imported has this entry alone in its stored table, which was flushed once.
+fn assert_flushed(
+    rt: &impl Abort,
+    alloc: Global,
+    filled: &mut Filled,
+    home: Entry,
+) -> Result<(), Fail> {
+    let last = imported(rt, alloc, &mut filled.disk)?;
+    let table = &last.pool.table;
+    assert_same(rt, "the table", table.zap.as_slice(), [home].as_slice());
+    assert_same(rt, "the flushes", table.age, 1);
     Ok(())
 }
 
 #[test]
 fn the_logs_are_swapped_and_flushed(rt: HostRuntime) -> Result<(), Fail> {
+    // The entry is on one page all the while, and the slot on another.
     let alloc = rt.alloc();
     let mut filled = new_pool(&rt, alloc)?;
     let home = entry(1, 100, 2, 1);
     put(&rt, alloc, &mut filled, 2, &[slot(0, 0, &home)], &[home], 2)?;
-    // The eighth group makes the active log the flushing one, and the ninth flushes it. The entry is on one page
-    // all the while, and the slot on another.
-    for (group, stored, flushing, active) in [
-        (3, 0, 0, 1),
-        (4, 0, 0, 1),
-        (5, 0, 0, 1),
-        (6, 0, 0, 1),
-        (7, 0, 0, 1),
-        (8, 0, 0, 1),
-        (9, 0, 1, 0),
-        (10, 1, 0, 0),
-    ] {
-        let sound = put(&rt, alloc, &mut filled, group, &[], &[], 2)?;
-        let table = &sound.pool.table;
-        let told = (table.zap.len(), table.flush.len(), table.active.len());
-        assert_eq!(rt; told, (stored, flushing, active), "after group {group}");
+    for (group, wanted) in SWAPPED_AND_FLUSHED {
+        put_nothing(&rt, alloc, &mut filled, group, wanted)?;
     }
-    let last = imported(&rt, alloc, &mut filled.disk)?;
-    assert_eq!(rt; last.pool.table.zap.as_slice(), [home].as_slice());
-    assert_eq!(rt; last.pool.table.age, 1);
-    Ok(())
+    assert_flushed(&rt, alloc, &mut filled, home)
 }

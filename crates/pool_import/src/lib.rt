@@ -19,8 +19,6 @@
 
 mod changes;
 mod flat;
-#[cfg(test)]
-mod import_tests;
 mod judge;
 mod judge_counts;
 mod judge_keys;
@@ -33,8 +31,6 @@ mod records;
 mod sealed;
 mod slots;
 mod tables;
-#[cfg(test)]
-mod tests;
 mod whole;
 
 pub use changes::{changes_of, entries_of};

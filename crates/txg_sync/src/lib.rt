@@ -29,8 +29,6 @@ mod planning;
 mod store;
 mod syncing;
 mod take;
-#[cfg(test)]
-mod tests;
 mod used;
 
 pub use begin::seal_new_pool;

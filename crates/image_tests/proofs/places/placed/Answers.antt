@@ -2,7 +2,7 @@
 use Rattle.std.proofs.Common.{◌≡◌, Bool, List, true, sym, subst}
 use Rattle.std.specs.Prelude.{slice_index_or}
 use Rattle.grant_book.proofs.MarkLaws.{ring_is_used}
-use Rattle.txg_sync.proofs.places.tests.placed.Goals as goal
+use Rattle.image_tests.proofs.places.placed.Goals as goal
 
 pub place_chains-requires : goal.place_chains-requires
 place_chains-requires c = record {
