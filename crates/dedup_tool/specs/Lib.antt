@@ -1,3 +1,5 @@
-pub mod Serving
-pub mod Image
+pub mod Asking
 pub mod Ending
+pub mod Image
+pub mod Opened
+pub mod Serving

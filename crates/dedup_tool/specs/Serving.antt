@@ -1,5 +1,5 @@
 -- What the program's session over a disk in memory comes to.
-use Rattle.std.specs.Prelude.{◌≡◌, ℕ, List, Some}
+use Rattle.std.specs.Prelude.{◌≡◌, ℕ, Some}
 use Rattle.ddt_entry.specs.Keys.{Keying, sha256_key}
 use Rattle.disk_model.specs.Images.{Image}
 use Rattle.disk_model.specs.Crashes.{NothingPending}
@@ -7,7 +7,8 @@ use Rattle.pool_model.specs.declared.notes.Session.{Session}
 use Rattle.pool_model.specs.Group.{lanes_in_turn}
 use Rattle.session.specs.Devices.{Devices, Input}
 use Rattle.session.specs.Looking.{Creates, LookCause, Tells}
-use Rattle.session.specs.Running.{HasCauseFor, RanOver, ReadSo, faults_in}
+use Rattle.session.specs.Entries.{IsLawfulSize}
+use Rattle.session.specs.Running.{HasCauseFor, RanOver, ReadSo, SizedSo, faults_in}
 use Rattle.session.specs.declared.status.Status.{Status}
 use Rattle.session.specs.declared.words.Look.{Look}
 use Rattle.session.specs.declared.words.Look.TheVariants.{Create, Stat}
@@ -18,13 +19,23 @@ abbrev pub by_sha256 : Keying
 by_sha256 = record { key_of = sha256_key; tag = 1 }
 
 -- a session that ran a command file, with these notes, where nothing was pending at its start
-pub record Ran (devices : Devices) (input : Input) (word : Word) (image : Image) (session : Session) (status : Status) : Type 0 where
-  pub quiet : NothingPending (Some image) devices.before.may_leave
-  pub over : RanOver devices input word (lanes_in_turn by_sha256) image session status
+pub record Ran (devices : Devices) (input : Input) (word : Word) (session : Session) (status : Status) : Type 0 where
+  pub quiet : NothingPending devices.before.seen devices.before.may_leave
+  -- over contents that are told
+  pub over : (image : Image) → devices.before.seen ≡ Some image → RanOver devices input word (lanes_in_turn by_sha256) image session status
   pub read : ReadSo status input
   pub cause : HasCauseFor status word by_sha256.tag devices (faults_in session)
 
+-- what a session that ran none comes to over contents that are told
+abbrev pub LookedOver : Devices → Look → Image → Status → Type 0
+LookedOver devices Create image status = Creates devices by_sha256.tag image status
+LookedOver devices Stat image status = Tells devices by_sha256.tag image status
+
 -- a session that ran none
-abbrev pub Looked : Devices → Look → Image → Status → Type 0
-Looked devices Create image status = Creates devices by_sha256.tag image status × LookCause status Create by_sha256.tag devices
-Looked devices Stat image status = Tells devices by_sha256.tag image status × LookCause status Stat by_sha256.tag devices
+pub record Looked (devices : Devices) (look : Look) (status : Status) : Type 0 where
+  pub over : (image : Image) → devices.before.seen ≡ Some image → LookedOver devices look image status
+  pub cause : LookCause status look by_sha256.tag devices
+
+-- where a pool is to be made on a disk whose size isn't lawful, that ends the session, if neither the file nor want of memory did
+abbrev pub MakesOnly : (sectors : ℕ) → Status → Type 0
+MakesOnly sectors status = (IsLawfulSize sectors → ⊥) → SizedSo status Unit

@@ -1,31 +1,72 @@
-ghost use Rattle.std.specs.Prelude.{ℕ, MatchOption};
-ghost use Rattle.dedup_tool.specs.Image.{IsMemory};
+ghost use Rattle.std.specs.Prelude.{◌≡◌, ◌++◌, ◌<◌, ℕ, List, codes, MatchOption};
+ghost use Rattle.dedup_tool.specs.Image.{IsNumberOf, IsSizedPath, Names};
 
 use itoa::Buffer;
 
-/// How many sectors a disk in memory has at the least and at the most.
+/// How many sectors a disk has at the least.
 const LEAST: u64 = 2048;
 
-const MOST: u64 = 65536;
+/// How many sectors a disk in memory has at the most.
+const MOST_IN_MEMORY: u64 = 65536;
 
-/// The sectors of the disk in memory that IMAGE names as `mem:N`, or `None` where it names none: N is
-/// written without leading zeros, and lies from 2,048 to 65,536.
-pub fn sectors_in_memory(image: &str) -> Option<u64>
-    ensures { MatchOption result ((n : ℕ) → ¬ IsMemory image.now n) (IsMemory image.now) }
+/// How many sectors a disk in a new file has at the most.
+const MOST_IN_FILE: u64 = 1_000_000;
+
+/// The disk that an image names.
+#[derive(Clone, Copy, Debug, PartialEq, Eq)]
+pub enum Image<'a> {
+    /// A disk in memory, of so many sectors.
+    Memory(u64),
+    /// A disk in a file that is made, of so many sectors, and the file's path.
+    New(u64, &'a str),
+    /// A disk in the file at this path.
+    Path(&'a str),
+}
+
+/// The disk that IMAGE names (docs/COMMANDS.md, "The command line").
+pub fn image_of(image: &str) -> Option<Image<'_>>
+    ensures { Names image.now result }
 {
-    let digits = image.strip_prefix("mem:")?;
-    let Ok(sectors) = digits.parse::<u64>() else {
+    if let Some(digits) = image.strip_prefix("mem:") {
+        let sectors = number_of(digits, LEAST, MOST_IN_MEMORY)?;
+        return Some(Image::Memory(sectors));
+    }
+    if let Some(rest) = image.strip_prefix("new:") {
+        let (sectors, path) = sized_path(rest)?;
+        return Some(Image::New(sectors, path));
+    }
+    Some(Image::Path(image))
+}
+
+/// The number of sectors and the path that stand behind `new:`.
+fn sized_path(rest: &str) -> Option<(u64, &str)>
+    ensures { MatchOption result ((n : ℕ) (path : List ℕ) → ¬ IsSizedPath rest.now n path) (λ sized. IsSizedPath rest.now sized.0 sized.1.now) }
+{
+    let Some((digits, path)) = rest.split_once(':') else {
         return None;
     };
-    if sectors < LEAST {
+    let Some(sectors) = number_of(digits, LEAST, MOST_IN_FILE) else {
+        return None;
+    };
+    Some((sectors, path))
+}
+
+/// The number that these digits spell without leading zeros, if it lies in this range.
+fn number_of(digits: &str, least: u64, most: u64) -> Option<u64>
+    ensures { MatchOption result ((n : ℕ) → ¬ IsNumberOf digits.now least most n) (IsNumberOf digits.now least most) }
+{
+    let Ok(number) = digits.parse::<u64>() else {
+        return None;
+    };
+    if number < least {
         return None;
     }
-    if MOST < sectors {
+    if most < number {
         return None;
     }
     let mut buffer = Buffer::new();
-    if buffer.format(sectors) != digits {
+    if buffer.format(number) != digits {
         return None;
     }
-    Some(sectors)
+    Some(number)
 }

@@ -1,16 +1,15 @@
 //! The program: `dedup_tool IMAGE WORDS`.
 //!
-//! It reads the command line, opens the image, hands the words with the disk and the standard streams to
-//! a session, and ends with the session's status, told on standard error in one line. The image is judged
-//! before the words. The first word says which session it is: one that runs the command file on standard
-//! input (`session::run`), or one that runs none (`session::inspect`). What a session does is said there, and `serve`
-//! says it again of a new disk in memory, whatever the source and the sink; outside of it are only the streams of
-//! the real machine, of which nothing is known but what std's readers and writers say.
+//! It reads the command line, opens the disk that IMAGE names, hands the words with the disk and the standard streams to
+//! a session, and ends with the session's status, told on standard error in one line. The image is judged before the
+//! words. The words say which session it is: one that runs the command file on standard input (`session::run`), or one
+//! that runs none (`session::inspect`). What a session does is said there, and `serve` says it again of whatever disk,
+//! source and sink: a disk in memory and one in a file are served by the same call. Outside of it are only the streams
+//! and the files of the real machine, of which nothing is known but what std says of them.
 #![tactic(auto)]
 
-ghost use Rattle.std.specs.Prelude.{◌≡◌, ◌↔◌, map, string_bytes, None, Some};
+ghost use Rattle.std.specs.Prelude.{◌≡◌, ◌≢◌, ◌≤◌, ◌↔◌, map, string_bytes, IfOk, None, Some};
 ghost use Rattle.disk_model.specs.Crashes.{NothingPending};
-ghost use Rattle.disk_model.specs.Memory.{MayBeLeft, contents, state_of};
 ghost use Rattle.pool_model.specs.declared.notes.Session.{Session};
 ghost use Rattle.session.specs.Devices.{between, reading};
 ghost use Rattle.session.specs.Faults.{code_of};
@@ -18,20 +17,26 @@ ghost use Rattle.session.specs.Words.{running_words, looking_words};
 ghost use Rattle.session.specs.declared.status.Status.{Status};
 ghost use Rattle.session.specs.declared.words.Look.{Look};
 ghost use Rattle.session.specs.declared.words.Word.{Word};
-ghost use Rattle.dedup_tool.specs.Serving.{Looked, Ran};
+ghost use Rattle.dedup_tool.specs.Opened.{AskForNone, IsUsage};
+ghost use Rattle.dedup_tool.specs.Serving.{Looked, MakesOnly, Ran};
+ghost use Rattle.dedup_tool.specs.declared.asking.Asked.{Asked};
 
+mod asking;
 mod ending;
 mod image;
 
+use asking::{Asked, Unasked, read_words};
 use ddt_entry::Sha256Key;
-use disk_model::MemDisk;
-use ending::{by_memory, runs_file};
-use image::sectors_in_memory;
+use disk_file::{FileDisk, OpenFault};
+use disk_model::{Disk, MemDisk};
+use ending::by_memory;
+use image::{Image, image_of};
 use io_model::{Sink, Source, StdSink, StdSource};
 use pool_model::{GroupNotes, Session};
 use session::{Status, fault_text, inspect, run};
 use std::alloc::Global;
 use std::env;
+use std::fs::{self, File, Files};
 use std::io::{ErrorKind, writer};
 use std::process::ExitCode;
 use std::rt::Env;
@@ -61,55 +66,136 @@ fn ended(rt: &impl Eprint, alloc: Global, status: &Status) -> u8
     }
 }
 
-/// Does the session of these words over a disk in memory on which nothing is pending, from this source and to this
-/// sink. What the words ask for is done as the session's contract says; other words touch nothing.
-fn serve<S: Source, W: Sink>(
+/// Does the session of these words over a disk on which nothing is pending, from this source and to this sink. What the
+/// words ask for is done as the session's contract says; other words touch nothing. Where `asked` is one kind of session,
+/// the words are none of the other kind.
+fn serve<D: Disk, S: Source, W: Sink>(
     alloc: Global,
+    asked: Asked,
     words: &[String],
-    disk: &mut MemDisk,
+    disk: &mut D,
     input: &mut S,
     out: &mut W,
 ) -> Status
-    requires quiet { NothingPending (Some (contents disk.old)) (MayBeLeft disk.old) }
-    ensures usage { (result ≡ Status.Usage) ↔ ((running_words (map string_bytes words.now) ≡ None) × (looking_words (map string_bytes words.now) ≡ None)) }
+    requires quiet { NothingPending (D.state disk.old).seen (D.state disk.old).may_leave }
+    requires runs { asked ≡ Asked.RunsFile → looking_words (map string_bytes words.now) ≡ None }
+    requires looks { asked ≡ Asked.RunsNone → running_words (map string_bytes words.now) ≡ None }
+    ensures usage { (result ≡ Status.Usage) ↔ AskForNone (map string_bytes words.now) }
     ensures untouched { result ≡ Status.Usage → (disk.new ≡ disk.old) × (input.new ≡ input.old) × (out.new ≡ out.old) }
     ensures ran { (word : Word) → running_words (map string_bytes words.now) ≡ Some word → (session : Session)
-        × Ran (between (state_of disk.old) (state_of disk.new) (W.written out.old) (W.written out.new) (W.faults out.old) (W.faults out.new))
-        (reading (S.left input.old) (S.left input.new) (S.faults input.old) (S.faults input.new)) word (contents disk.old) session result }
+        × Ran (between (D.state disk.old) (D.state disk.new) (W.written out.old) (W.written out.new) (W.faults out.old) (W.faults out.new))
+        (reading (S.left input.old) (S.left input.new) (S.faults input.old) (S.faults input.new)) word session result }
     ensures looked { (look : Look) → looking_words (map string_bytes words.now) ≡ Some look
-        → Looked (between (state_of disk.old) (state_of disk.new) (W.written out.old) (W.written out.new) (W.faults out.old) (W.faults out.new))
-        look (contents disk.old) result }
+        → Looked (between (D.state disk.old) (D.state disk.new) (W.written out.old) (W.written out.new) (W.faults out.old) (W.faults out.new))
+        look result }
+    ensures makes { running_words (map string_bytes words.now) ≡ Some Word.Make → MakesOnly (D.state disk.old).sectors result }
+    ensures sectors { (D.state disk.new).sectors ≡ (D.state disk.old).sectors }
+    ensures writes { (D.state disk.old).write_faults ≤ (D.state disk.new).write_faults }
+    ensures sink { W.faults out.old ≤ W.faults out.new }
 {
-    if !runs_file(words) {
-        return inspect(alloc, words, disk, out, &Sha256Key);
+    match asked {
+        Asked::RunsNone => inspect(alloc, words, disk, out, &Sha256Key),
+        Asked::RunsFile => {
+            let mut session = Session {
+                groups: GroupNotes::new(alloc),
+                sealed: 0,
+            };
+            run(alloc, words, disk, input, out, &Sha256Key, &mut session)
+        }
     }
-    let mut session = Session {
-        groups: GroupNotes::new(alloc),
-        sealed: 0,
-    };
-    run(alloc, words, disk, input, out, &Sha256Key, &mut session)
 }
 
-/// Does the session of these words over a disk in memory with the standard streams, says how it ended, and answers
-/// the status that the program ends with. It is that of `usage` exactly where the words are none of a session's.
-fn run_words<R: Input + Print + Eprint>(
+/// Does the session of these words over a disk with the standard streams, and answers how it ended. Want of memory for
+/// the words themselves touches the disk as little as words of no session.
+fn run_words<R: Input + Print, D: Disk>(
     rt: &R,
     alloc: Global,
     words: &[String],
-    mut disk: MemDisk,
-) -> u8
-    requires quiet { NothingPending (Some (contents disk)) (MayBeLeft disk) }
-    ensures usage { (result ≡ 1) ↔ ((running_words (map string_bytes words.now) ≡ None) × (looking_words (map string_bytes words.now) ≡ None)) }
+    disk: &mut D,
+) -> Status
+    requires quiet { NothingPending (D.state disk.old).seen (D.state disk.old).may_leave }
+    ensures usage { IsUsage (map string_bytes words.now) result }
+    ensures untouched { AskForNone (map string_bytes words.now) → disk.new ≡ disk.old }
 {
+    let asked = match read_words(alloc, words) {
+        Ok(asked) => asked,
+        Err(Unasked::Usage) => return Status::Usage,
+        Err(Unasked::Memory) => return Status::OutOfMemory,
+    };
     let mut out = StdSink::new(writer(rt));
     let mut input = StdSource::new(rt.reader());
-    let status = serve(alloc, words, &mut disk, &mut input, &mut out);
-    let status = by_memory(disk.starved(), status);
-    ended(rt, alloc, &status)
+    serve(alloc, asked, words, disk, &mut input, &mut out)
+}
+
+/// Does the session of these words over a new disk in memory of so many sectors. A write fault that came from want of
+/// memory is told as such.
+fn run_in_memory<R: Input + Print>(
+    rt: &R,
+    alloc: Global,
+    words: &[String],
+    sectors: u64,
+) -> Result<Status, OpenFault>
+    ensures usage { IfOk result (IsUsage (map string_bytes words.now)) }
+{
+    let Ok(mut disk) = MemDisk::new(alloc, sectors) else {
+        return Err(OpenFault::Memory);
+    };
+    let status = run_words(rt, alloc, words, &mut disk);
+    Ok(by_memory(disk.starved(), status))
+}
+
+/// Does the session of these words over a disk in a new file of so many sectors. Words of no session leave no file.
+fn run_in_new_file<R: Input + Print + Files<File = File>>(
+    rt: &R,
+    alloc: Global,
+    words: &[String],
+    path: &str,
+    sectors: u64,
+) -> Result<Status, OpenFault>
+    ensures usage { IfOk result (IsUsage (map string_bytes words.now)) }
+{
+    let mut disk = FileDisk::make(rt, path, sectors)?;
+    let status = run_words(rt, alloc, words, &mut disk);
+    if status == Status::Usage {
+        let _ = fs::remove_file(rt, path);
+    }
+    Ok(status)
+}
+
+/// Does the session of these words over the disk in the file at this path.
+fn run_in_file<R: Input + Print + Files<File = File>>(
+    rt: &R,
+    alloc: Global,
+    words: &[String],
+    path: &str,
+) -> Result<Status, OpenFault>
+    ensures usage { IfOk result (IsUsage (map string_bytes words.now)) }
+{
+    let mut disk = FileDisk::at_path(rt, path)?;
+    Ok(run_words(rt, alloc, words, &mut disk))
+}
+
+/// Does the session of these words over the disk that an image names. The error says why there is no such disk: then
+/// nothing was read or written.
+fn run_on<R: Input + Print + Files<File = File>>(
+    rt: &R,
+    alloc: Global,
+    image: Image<'_>,
+    words: &[String],
+) -> Result<Status, OpenFault>
+    ensures usage { IfOk result (IsUsage (map string_bytes words.now)) }
+{
+    match image {
+        Image::Memory(sectors) => run_in_memory(rt, alloc, words, sectors),
+        Image::New(sectors, path) => run_in_new_file(rt, alloc, words, path, sectors),
+        Image::Path(path) => run_in_file(rt, alloc, words, path),
+    }
 }
 
 /// Runs the program on its command line, and answers the status that it ends with.
-fn run_command_line<R: Env + Input + Print + Eprint + AllocGlobal>(rt: &R) -> u8 {
+fn run_command_line<R: Env + Input + Print + Eprint + AllocGlobal + Files<File = File>>(
+    rt: &R,
+) -> u8 {
     let args = match env::args(rt) {
         Ok(args) => args,
         Err(error) if error.kind() == ErrorKind::OutOfMemory => {
@@ -120,16 +206,17 @@ fn run_command_line<R: Env + Input + Print + Eprint + AllocGlobal>(rt: &R) -> u8
     let Ok(words) = args.collect::<Vec<String>>(rt.alloc()) else {
         return told(rt, "out of memory", Status::OutOfMemory.code());
     };
-    let Some(image) = words.get(1) else {
+    let Some(name) = words.get(1) else {
         return told(rt, "cannot open image", NO_IMAGE);
     };
-    let Some(sectors) = sectors_in_memory(image.as_str()) else {
+    let Some(image) = image_of(name.as_str()) else {
         return told(rt, "cannot open image", NO_IMAGE);
     };
-    let Ok(disk) = MemDisk::new(rt.alloc(), sectors) else {
-        return told(rt, "out of memory", Status::OutOfMemory.code());
-    };
-    run_words(rt, rt.alloc(), &words[2..], disk)
+    match run_on(rt, rt.alloc(), image, &words[2..]) {
+        Ok(status) => ended(rt, rt.alloc(), &status),
+        Err(OpenFault::Refused) => told(rt, "cannot open image", NO_IMAGE),
+        Err(OpenFault::Memory) => told(rt, "out of memory", Status::OutOfMemory.code()),
+    }
 }
 
 fn main(rt: HostRuntime) -> ExitCode {
