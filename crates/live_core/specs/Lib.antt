@@ -1,0 +1,5 @@
+pub mod Bases
+pub mod Cores
+pub mod Moves
+pub mod Tables
+pub mod Views
