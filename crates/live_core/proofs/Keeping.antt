@@ -46,7 +46,8 @@ put_same at state states same key = by_test (key == at) refl
 core_same : (core later : CoreState) → ((key : ℕ) → later.states key ≡ core.states key) → later.homes ≡ core.homes → later ≡ core
 core_same core later states homes = λ i. record { states = λ key. states key i; homes = homes i }
 
-unkept_same : (terms : Terms) (core : CoreState) (step : Step) → is_kept (moved terms core step).answer ≡ false
+-- so it leaves the whole core
+pub unkept_same : (terms : Terms) (core : CoreState) (step : Step) → is_kept (moved terms core step).answer ≡ false
     → core_after terms core step ≡ core
 unkept_same terms core step out =
     let same = unkept_stays step (core.states (key_in step)) core.homes (moved terms core step) (moved_goes terms core step) out in

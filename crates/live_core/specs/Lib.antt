@@ -1,5 +1,7 @@
 pub mod Bases
 pub mod Cores
+pub mod Events
 pub mod Moves
+pub mod Runs
 pub mod Tables
 pub mod Views

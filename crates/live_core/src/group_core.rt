@@ -41,22 +41,35 @@ impl<T: TellsBase> Model for Core<T> {
 }
 
 impl<T: TellsBase> Core<T> {
-    /// A core with no history and all keys idle, over the base that is told, with room for three events a command. So many
-    /// homes have a count above 0 as the group opens; `number` is the group's, `moment` its moment in seconds. The error is
-    /// want of memory.
+    /// A core with no history and all keys idle, over the base that is told, with room for three events a command. The keys
+    /// are the group's; so many homes have a count above 0 as it opens; the quota is in bytes; `number` is the group's, and
+    /// `moment` its moment in seconds. The error is want of memory.
     pub fn new(
         alloc: Global,
         told: &T,
-        terms: Terms,
+        keys: &[Key],
+        homes: u64,
+        quota: Option<u64>,
+        number: u64,
+        moment: u64,
         commands: u64,
     ) -> Result<Core<T>, AllocError>
-        requires keys { length (T.told told.now).keys ≡ terms.keys }
-        requires few { (terms.keys ≤ 65536) × (commands ≤ 65536) }
-        requires homes { terms.homes ≤ most_before }
-        ensures base { IfOk result (λ core. core.base ≡ record { told = T.told told.now; terms = terms }) }
+        requires keys { (T.told told.now).keys ≡ keys.now }
+        requires few { (length keys.now ≤ 65536) × (commands ≤ 65536) }
+        requires homes { homes ≤ most_before }
+        ensures told { IfOk result (λ core. core.base.told ≡ T.told told.now) }
+        ensures terms { IfOk result (λ core. core.base.terms ≡ record { keys = length keys.now; homes = homes; quota = quota;
+            number = number; moment = moment }) }
         ensures fresh { IfOk result (λ core. core.history ≡ []) }
         ensures room { IfOk result (λ core. 3 * commands ≤ core.spare) }
     {
+        let terms = Terms {
+            keys: keys.len() as u64,
+            homes,
+            quota,
+            number,
+            moment,
+        };
         let table = KeyTable::new(alloc, terms, 3 * commands)?;
         Ok(Core {
             table,
