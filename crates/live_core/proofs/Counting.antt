@@ -1,5 +1,5 @@
 -- The count of a key against what the events say.
-use Rattle.std.proofs.Common.{◌≡◌, ℕ, ◌+◌, ◌-◌, ◌==◌, ◌&&◌, Bool, true, false, if◌then◌else◌, List, [], ◌∷◌, length, filter, sum_by, refl, sym, ap, ◌∙◌, subst, arith}
+use Rattle.std.proofs.Common.{◌≡◌, ℕ, ◌+◌, ◌==◌, ◌&&◌, Bool, true, false, if◌then◌else◌, List, [], ◌∷◌, length, filter, refl, sym, ap, ◌∙◌, subst, arith}
 use Rattle.std.proofs.lemmas.Bool.Decides.{nat_tests}
 use Rattle.std.proofs.lemmas.List.Sums.{sum_by-cons}
 use Rattle.machine_model.specs.declared.machine.Event.{Event}
@@ -84,6 +84,7 @@ one_event terms core e key answered = by_test (key_in e.step == key) refl
   where
     m : Move
     m = moved terms core e.step
+
     here : key_in e.step ≡ key → count_in (put (key_in e.step) m.state core.states key) + bit (is_loss e.answer)
         ≡ count_in (core.states key) + (if is_done e.answer then handed_in e.step else 0) + bit (is_gain e.answer)
     here one = subst (λ (a : Answer). count_in (put (key_in e.step) m.state core.states key) + bit (is_loss a)
@@ -94,8 +95,10 @@ one_event terms core e key answered = by_test (key_in e.step == key) refl
         ≡ count_in (core.states (key_in e.step)) + (if is_done m.answer then handed_in e.step else 0) + bit (is_gain m.answer))
         (sym (put_here (key_in e.step) m.state core.states))
         (balance e.step (core.states (key_in e.step)) core.homes m (moved_goes terms core e.step))))
+
     apart : (b : Bool) → (key_in e.step == key) ≡ b → b ≡ false → (key == key_in e.step) ≡ false
     apart b f g = grind (arith, nat_tests)
+
     by_test : (b : Bool) → (key_in e.step == key) ≡ b → count_in (put (key_in e.step) m.state core.states key) + bit (b && is_loss e.answer)
         ≡ count_in (core.states key) + (if b && is_done e.answer then handed_in e.step else 0) + bit (b && is_gain e.answer)
     by_test true test = let one : key_in e.step ≡ key = grind (arith, nat_tests) in here one
@@ -120,7 +123,7 @@ counts_from terms core (e ∷ es) key answered =
     let g = filter_more (λ (event : Event Step Answer). key_in event.step == key && is_gain event.answer) e es in
     let l = filter_more (λ (event : Event Step Answer). key_in event.step == key && is_loss event.answer) e es in
     let d = sum_by-cons (λ (event : Event Step Answer). if key_in event.step == key && is_done event.answer then handed_in event.step else 0)
-        e es in
+    e es in
     omega arith
 
 pub counts_add : (terms : Terms) (history : History Step Answer) (key : ℕ) → AreAnswered terms (first_core terms) history

@@ -11,11 +11,11 @@ use Rattle.live_core.specs.declared.steps.Answer.{Answer}
 use Rattle.live_core.specs.declared.steps.Terms.{Terms}
 use Rattle.live_core.specs.declared.moves.Move.{Move}
 use Rattle.live_core.specs.Moves.{stray, move_of, key_in, is_kept, count_in}
-use Rattle.live_core.specs.Cores.{put, moved, core_after, core_at, answer_at}
+use Rattle.live_core.specs.Cores.{put, moved, core_after, core_at}
 use Rattle.live_core.specs.Views.{keeps}
 use Rattle.live_core.specs.Tables.{AreStates, AreSmall, IsSmallLoad, most_before}
 use Rattle.live_core.proofs.Goes.{Goes, stays, leads, loads, fails, news, hits, falls}
-use Rattle.live_core.proofs.Keeping.{moved_goes, put_same, core_kept}
+use Rattle.live_core.proofs.Keeping.{moved_goes, core_kept}
 
 -- how many events a step adds
 abbrev pub added : Step → Answer → ℕ
@@ -105,7 +105,6 @@ module _ (terms : Terms) (history : History Step Answer) (step : Step) (m : Move
       by_test false = let before : count_in ((core_at terms history).states key) ≤ most_before + length history = small key in
           let long = length_now in omega arith
 
-
   pub states_now : (states changed : List KeyState) (at : ℕ) → length states ≡ terms.keys → AreStates terms history states
       → at ≡ key_in step → changed ≡ slice_set states at m.state → AreStates terms later changed
   states_now states changed at wide are here set key =
@@ -114,13 +113,16 @@ module _ (terms : Terms) (history : History Step Answer) (step : Step) (m : Move
     where
       outside : Move → Type 0
       outside x = x.state ≡ (core_at terms history).states (key_in step)
+
       past : terms.keys ≤ key_in step → m.state ≡ (core_at terms history).states (key_in step)
       past far = subst outside (sym is) (ap (λ (b : Bool). (if b then
           move_of terms step ((core_at terms history).states (key_in step)) (core_at terms history).homes
           else stray ((core_at terms history).states (key_in step)) (core_at terms history).homes).state)
           (past_is (key_in step) terms.keys far))
+
       same_key : (b : Bool) → (key == key_in step) ≡ b → b ≡ true → key ≡ key_in step
       same_key b e f = grind (arith, nat_tests)
+
       there : (inside : Bool) → nat_lt (key_in step) (length states) ≡ inside
           → slice_index_or (slice_set states (key_in step) m.state) (key_in step) Idle ≡ m.state
       there true e = get_or-set_same states (key_in step) m.state Idle (lt_is (key_in step) (length states) e)
@@ -129,6 +131,7 @@ module _ (terms : Terms) (history : History Step Answer) (step : Step) (m : Move
           let long = length-set states (key_in step) m.state in
           get_or_past (slice_set states (key_in step) m.state) (key_in step) Idle (omega arith)
           ∙ sym (get_or_past states (key_in step) Idle far) ∙ are (key_in step) ∙ sym (past (omega arith))
+
       by_test : (b : Bool) → (key == key_in step) ≡ b
           → slice_index_or (slice_set states (key_in step) m.state) key Idle ≡ (if b then m.state else (core_at terms history).states key)
       by_test true e = let one : key ≡ key_in step = same_key true e refl in

@@ -9,7 +9,7 @@ use Rattle.machine_model.specs.Histories.{History}
 use Rattle.live_core.specs.declared.steps.KeyState.{KeyState}
 use Rattle.live_core.specs.declared.steps.KeyState.TheVariants.{Idle, Led, Known}
 use Rattle.live_core.specs.declared.steps.Step.{Step}
-use Rattle.live_core.specs.declared.steps.Step.TheVariants.{Claim, Loaded, Failed}
+use Rattle.live_core.specs.declared.steps.Step.TheVariants.{Claim, Loaded}
 use Rattle.live_core.specs.declared.steps.Answer.{Answer}
 use Rattle.live_core.specs.declared.steps.Answer.TheVariants as answers
 use Rattle.live_core.specs.declared.steps.Terms.{Terms}
@@ -132,18 +132,24 @@ second_lead terms before between lane other key first second =
   where
     event : Event Step Answer
     event = record { step = Claim lane key; answer = answers.Lead }
+
     taken : HasLed (Claim lane key) ((core_at terms before).states key) (moved terms (core_at terms before) (Claim lane key))
     taken = has_led (Claim lane key) ((core_at terms before).states key) (core_at terms before).homes
         (moved terms (core_at terms before) (Claim lane key)) (moved_goes terms (core_at terms before) (Claim lane key)) first
+
     leader : (moved terms (core_at terms before) (Claim lane key)).state ≡ Led lane
     leader = let one : taken.lane ≡ lane = cc (sym taken.claims) in taken.leads_it ∙ ap Led one
+
     then_led : (core_after terms (core_at terms before) (Claim lane key)).states key ≡ Led lane
     then_led = put_here key (moved terms (core_at terms before) (Claim lane key)).state (core_at terms before).states ∙ leader
+
     late : CoreState
     late = core_at terms (before ++ event ∷ between)
+
     idle : late.states key ≡ Idle
     idle = (has_led (Claim other key) (late.states key) late.homes (moved terms late (Claim other key))
         (moved_goes terms late (Claim other key)) second).was
+
     by_test : (b : Bool) → list_any (λ (e : Event Step Answer). gives_up lane key e.step) between ≡ b → b ≡ true
     by_test true e = refl
     by_test false e = absurd (subst (IsPast lane) (sym (ap (λ core. core.states key) (core_beyond terms before (event ∷ between))) ∙ idle)
@@ -192,18 +198,26 @@ late_is_stray lane homes next (Led other) true known = absurd (cc known)
 late_is_stray lane homes next (Known it) true known = refl
 late_is_stray lane homes next state false known = refl
 
+pub known_after : (terms : Terms) (before more : History Step Answer) (lane key : ℕ) (home : Option Home)
+    → answer_at terms before (Loaded lane key home) ≡ answers.Done
+    → is_known ((core_at terms (before ++ record { step = Loaded lane key home; answer = answers.Done } ∷ more)).states key) ≡ true
+known_after terms before more lane key home done =
+    ap (λ core. is_known (core.states key)) (core_beyond terms before (event ∷ more))
+    ∙ known_from terms (core_after terms (core_at terms before) (Loaded lane key home)) more key
+    (ap is_known (put_here key (moved terms (core_at terms before) (Loaded lane key home)).state (core_at terms before).states)
+    ∙ load_knows lane key home ((core_at terms before).states key) (core_at terms before).homes
+    (moved terms (core_at terms before) (Loaded lane key home)) (moved_goes terms (core_at terms before) (Loaded lane key home)) done)
+  where
+    event : Event Step Answer
+    event = record { step = Loaded lane key home; answer = answers.Done }
+
 pub loaded_once : (terms : Terms) (before between : History Step Answer) (lane other key : ℕ) (home late : Option Home)
     → answer_at terms before (Loaded lane key home) ≡ answers.Done
     → answer_at terms (before ++ record { step = Loaded lane key home; answer = answers.Done } ∷ between) (Loaded other key late)
     ≡ answers.Stray
 loaded_once terms before between lane other key home late done =
     late_is_stray other (core_at terms (before ++ event ∷ between)).homes (Known (on_disk late))
-    ((core_at terms (before ++ event ∷ between)).states key) (nat_lt key terms.keys)
-    (ap (λ core. is_known (core.states key)) (core_beyond terms before (event ∷ between))
-    ∙ known_from terms (core_after terms (core_at terms before) (Loaded lane key home)) between key
-    (ap is_known (put_here key (moved terms (core_at terms before) (Loaded lane key home)).state (core_at terms before).states)
-    ∙ load_knows lane key home ((core_at terms before).states key) (core_at terms before).homes
-    (moved terms (core_at terms before) (Loaded lane key home)) (moved_goes terms (core_at terms before) (Loaded lane key home)) done))
+    ((core_at terms (before ++ event ∷ between)).states key) (nat_lt key terms.keys) (known_after terms before between lane key home done)
   where
     event : Event Step Answer
     event = record { step = Loaded lane key home; answer = answers.Done }

@@ -1,5 +1,5 @@
 -- The number of homes against the states of all keys.
-use Rattle.std.proofs.Common.{◌≡◌, ◌≢◌, ℕ, zero, suc, ◌+◌, ◌-◌, ◌<◌, ◌≤◌, ◌==◌, ◌&&◌, Bool, true, false, nat_lt, if◌then◌else◌, List, [], ◌∷◌, slice_get, slice_index_or, Option, Some, None, refl, sym, ap, ◌∙◌, subst, eq-eqb, ne_eqb, arith}
+use Rattle.std.proofs.Common.{◌≡◌, ◌≢◌, ℕ, zero, suc, ◌+◌, ◌-◌, ◌<◌, ◌≤◌, ◌==◌, ◌&&◌, Bool, true, false, nat_lt, if◌then◌else◌, List, [], ◌∷◌, Option, Some, None, refl, sym, ap, ◌∙◌, subst, ne_eqb, arith}
 use Rattle.std.specs.List.{AllByRecursion}
 use Rattle.std.proofs.lemmas.Bool.Decides.{nat_tests}
 use Rattle.std.proofs.lemmas.Option.{get_or_from_slice_get}
@@ -9,14 +9,12 @@ use Rattle.ddt_entry.specs.declared.entry.Home.{Home}
 use Rattle.machine_model.specs.declared.machine.Event.{Event}
 use Rattle.machine_model.specs.Histories.{History}
 use Rattle.live_core.specs.declared.steps.KeyState.{KeyState}
-use Rattle.live_core.specs.declared.steps.KeyState.TheVariants.{Idle, Led, Known}
 use Rattle.live_core.specs.declared.steps.Step.{Step}
 use Rattle.live_core.specs.declared.steps.Step.TheVariants.{Loaded}
 use Rattle.live_core.specs.declared.steps.Answer.{Answer}
-use Rattle.live_core.specs.declared.steps.Terms.{Terms}
 use Rattle.live_core.specs.declared.moves.Move.{Move}
 use Rattle.live_core.specs.Moves.{key_in, count_in, move_of, stray, on_disk, references}
-use Rattle.live_core.specs.Cores.{CoreState, put, moved, core_after, first_core, core_at}
+use Rattle.live_core.specs.Cores.{CoreState, put, core_after, first_core, core_at}
 use Rattle.live_core.specs.Bases.{Base, IsToldHome, IsLoad}
 use Rattle.live_core.specs.Events.{is_known, how_many, is_told_live}
 use Rattle.live_core.proofs.Goes.{Goes, stays, leads, loads, fails, news, hits, falls, goes}
@@ -124,12 +122,16 @@ module _ (base : Base) (homes : List (Option Home)) (told : base.told.homes ≡ 
     where
       told_now : told_bit (key_in step) m.state ≡ told_bit (key_in step) state
       told_now = ap (λ (x : KeyState). told_bit (key_in step) x) s ∙ sym (ap (λ (x : KeyState). told_bit (key_in step) x) before)
+
       had : bit (is_live state) ≡ 1
       had = live_bit state live.home.count (ap count_in before) has
+
       is_one : (b : Bool) → (live.home.count == 1) ≡ b → b ≡ true → live.home.count ≡ 1
       is_one b e f = grind (arith, nat_tests)
+
       is_more : (b : Bool) → (live.home.count == 1) ≡ b → b ≡ false → 0 < live.home.count - 1
       is_more b e f = grind (arith, nat_tests)
+
       by_test : (last : Bool) → (live.home.count == 1) ≡ last → Shifts (key_in step) state number m
       by_test true e =
           let only = is_one true e refl in
@@ -147,16 +149,16 @@ module _ (base : Base) (homes : List (Option Home)) (told : base.told.homes ≡ 
       → Adds (record { states = put (key_in step) m.state core.states; homes = m.homes })
   adds_inside core step m inside load went adds =
       let known = many_changed (λ key. is_known (put (key_in step) m.state core.states key) && is_told_live homes key)
-          (λ key. is_known (core.states key) && is_told_live homes key) (key_in step) base.terms.keys inside
-          (λ j other. ap (λ (s : KeyState). is_known s && is_told_live homes j) (put_other (key_in step) m.state core.states j other)) in
+      (λ key. is_known (core.states key) && is_told_live homes key) (key_in step) base.terms.keys inside
+      (λ j other. ap (λ (s : KeyState). is_known s && is_told_live homes j) (put_other (key_in step) m.state core.states j other)) in
       let live = many_changed (λ key. is_live (put (key_in step) m.state core.states key)) (λ key. is_live (core.states key))
-          (key_in step) base.terms.keys inside (λ j other. ap is_live (put_other (key_in step) m.state core.states j other)) in
+      (key_in step) base.terms.keys inside (λ j other. ap is_live (put_other (key_in step) m.state core.states j other)) in
       let here_told = ap (λ (s : KeyState). told_bit (key_in step) s) (put_here (key_in step) m.state core.states) in
       let here_live = ap (λ (s : KeyState). bit (is_live s)) (put_here (key_in step) m.state core.states) in
       let fewer = known_fewer core in
       let enough_of_them = enough in
       let moved_by = shifts step (core.states (key_in step)) core.homes m load
-          (λ has. let some = many_some (λ key. is_live (core.states key)) (key_in step) base.terms.keys inside (bit_is _ has) in omega arith) went in
+      (λ has. let some = many_some (λ key. is_live (core.states key)) (key_in step) base.terms.keys inside (bit_is _ has) in omega arith) went in
       omega arith
     where
       bit_is : (b : Bool) → bit b ≡ 1 → b ≡ true
@@ -167,21 +169,24 @@ module _ (base : Base) (homes : List (Option Home)) (told : base.told.homes ≡ 
   adds_after core step load adds = by_test (nat_lt (key_in step) base.terms.keys) refl
     where
       by_test : (b : Bool) → nat_lt (key_in step) base.terms.keys ≡ b
-          → Adds (record { states = put (key_in step)
-          (if b then move_of base.terms step (core.states (key_in step)) core.homes else stray (core.states (key_in step)) core.homes).state
-          core.states; homes = (if b then move_of base.terms step (core.states (key_in step)) core.homes
-          else stray (core.states (key_in step)) core.homes).homes })
+          → Adds (record {
+            states = put (key_in step)
+                (if b then move_of base.terms step (core.states (key_in step)) core.homes else stray (core.states (key_in step)) core.homes).state
+                core.states;
+            homes = (if b then move_of base.terms step (core.states (key_in step)) core.homes
+                else stray (core.states (key_in step)) core.homes).homes;
+          })
       by_test true e = let inside : key_in step < base.terms.keys = grind (arith, nat_tests) in
           adds_inside core step (move_of base.terms step (core.states (key_in step)) core.homes) inside load
           (goes base.terms step (core.states (key_in step)) core.homes) adds
       by_test false e =
           let same = put_same (key_in step) (core.states (key_in step)) core.states refl in
           let known = many_same
-              (λ key. is_known (put (key_in step) (core.states (key_in step)) core.states key) && is_told_live homes key)
-              (λ key. is_known (core.states key) && is_told_live homes key) base.terms.keys
-              (λ k less. ap (λ (s : KeyState). is_known s && is_told_live homes k) (same k)) in
+          (λ key. is_known (put (key_in step) (core.states (key_in step)) core.states key) && is_told_live homes key)
+          (λ key. is_known (core.states key) && is_told_live homes key) base.terms.keys
+          (λ k less. ap (λ (s : KeyState). is_known s && is_told_live homes k) (same k)) in
           let live = many_same (λ key. is_live (put (key_in step) (core.states (key_in step)) core.states key))
-              (λ key. is_live (core.states key)) base.terms.keys (λ k less. ap is_live (same k)) in
+          (λ key. is_live (core.states key)) base.terms.keys (λ k less. ap is_live (same k)) in
           omega arith
 
   adds_from : (core : CoreState) (history : History Step Answer) → AllByRecursion (λ (e : Event Step Answer). IsLoad base e.step) history

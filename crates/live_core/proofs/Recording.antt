@@ -6,7 +6,7 @@ use Rattle.machine_model.specs.Histories.{History, kept_of, IsLegal}
 use Rattle.live_core.specs.declared.steps.Step.{Step}
 use Rattle.live_core.specs.declared.steps.Answer.{Answer}
 use Rattle.live_core.specs.declared.steps.Terms.{Terms}
-use Rattle.live_core.specs.Bases.{Base, Fits}
+use Rattle.live_core.specs.Bases.{Base, Fits, IsLoad}
 use Rattle.live_core.specs.Moves.{is_kept}
 use Rattle.live_core.specs.Cores.{CoreState, first_core, moved, core_after, core_at, answer_at}
 use Rattle.live_core.specs.Events.{AreAnswered}
@@ -34,6 +34,7 @@ answered_from terms core (step ∷ steps) =
   where
     rest : History Step Answer
     rest = kept_from terms (core_after terms core step) steps
+
     by_test : (b : Bool) → is_kept (moved terms core step).answer ≡ b → AreAnswered terms (core_after terms core step) rest
         → AreAnswered terms core ((if b then record { step = step; answer = (moved terms core step).answer } ∷ [] else []) ++ rest)
     by_test true e are = (refl, are)
@@ -65,6 +66,7 @@ all_kept terms core (step ∷ steps) =
   where
     rest : List (Event Step Answer)
     rest = kept_from terms (core_after terms core step) steps
+
     by_test : (b : Bool) → is_kept (moved terms core step).answer ≡ b
         → list_all (λ (e : Event Step Answer). is_kept e.answer) rest ≡ true → list_all (λ (e : Event Step Answer). is_kept e.answer)
         ((if b then record { step = step; answer = (moved terms core step).answer } ∷ [] else []) ++ rest) ≡ true
@@ -79,6 +81,7 @@ legal_from base before (step ∷ steps) fit =
   where
     event : Event Step Answer
     event = record { step = step; answer = answer_at base.terms before step }
+
     by_test : (b : Bool) → is_kept (answer_at base.terms before step) ≡ b
         → ((h : History Step Answer) → IsLegal Fits reply base h (kept_from base.terms (core_at base.terms h) steps))
         → IsLegal Fits reply base before
@@ -91,3 +94,25 @@ legal_from base before (step ∷ steps) fit =
     )
     by_test false e legal = subst (λ (core : CoreState). IsLegal Fits reply base before (kept_from base.terms core steps))
         (sym (unkept_same base.terms (core_at base.terms before) step e)) (legal before)
+
+legal_answered : (base : Base) (before history : History Step Answer) → IsLegal Fits reply base before history
+    → AreAnswered base.terms (core_at base.terms before) history
+legal_answered base before [] legal = tt
+legal_answered base before (e ∷ es) legal = (
+  legal.1,
+  subst (λ (core : CoreState). AreAnswered base.terms core es) (core_longer base.terms before e)
+      (legal_answered base (before ++ e ∷ []) es legal.2),
+)
+
+pub answered_if_legal : (base : Base) (history : History Step Answer) → IsLegal Fits reply base [] history
+    → AreAnswered base.terms (first_core base.terms) history
+answered_if_legal base history legal = legal_answered base [] history legal
+
+legal_loads : (base : Base) (before history : History Step Answer) → IsLegal Fits reply base before history
+    → AllByRecursion (λ (e : Event Step Answer). IsLoad base e.step) history
+legal_loads base before [] legal = tt
+legal_loads base before (e ∷ es) legal = (legal.0.0, legal_loads base (before ++ e ∷ []) es legal.2)
+
+pub loads_if_legal : (base : Base) (history : History Step Answer) → IsLegal Fits reply base [] history
+    → AllByRecursion (λ (e : Event Step Answer). IsLoad base e.step) history
+loads_if_legal base history legal = legal_loads base [] history legal

@@ -1,6 +1,5 @@
 -- The state of a group's keys after a history, and the answer to a step there.
-use Rattle.std.specs.Prelude.{ℕ, Bool, ◌==◌, nat_lt, List, fold, if◌then◌else◌}
-use Rattle.machine_model.specs.declared.machine.Event.{Event}
+use Rattle.std.specs.Prelude.{ℕ, ◌==◌, nat_lt, fold, if◌then◌else◌}
 use Rattle.machine_model.specs.Histories.{History}
 use Rattle.live_core.specs.declared.steps.KeyState.{KeyState}
 use Rattle.live_core.specs.declared.steps.KeyState.TheVariants.{Idle}

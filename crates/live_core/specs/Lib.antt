@@ -5,3 +5,4 @@ pub mod Moves
 pub mod Runs
 pub mod Tables
 pub mod Views
+pub mod Worked

@@ -1,5 +1,5 @@
 -- The table of steps: what a step answers at the state of its key, and what it leaves.
-use Rattle.std.specs.Prelude.{ℕ, ◌+◌, ◌-◌, Bool, true, false, not, ◌&&◌, ◌==◌, nat_lt, Option, Some, None, if◌then◌else◌}
+use Rattle.std.specs.Prelude.{ℕ, ◌+◌, ◌-◌, Bool, true, false, ◌&&◌, ◌==◌, nat_lt, Option, Some, None, if◌then◌else◌}
 use Rattle.quota_rule.specs.Allows.{allows}
 use Rattle.ddt_entry.specs.declared.entry.Home.{Home}
 use Rattle.live_core.specs.declared.steps.Body.{Body}
@@ -47,7 +47,7 @@ new_home terms place = record { place = place; birth = terms.number; since = ter
 abbrev pub make : Terms → Body → (place : ℕ) → Option LiveHome → (homes : ℕ) → Move
 make terms body place known homes =
     if allows homes terms.quota then move (answers.New (new_home terms place))
-        (Known (Some (record { home = new_home terms place; body = body }))) (homes + 1)
+    (Known (Some (record { home = new_home terms place; body = body }))) (homes + 1)
     else move answers.Quota (Known known) homes
 
 -- the home with one reference more
@@ -66,7 +66,7 @@ hit live homes = move (answers.Hit (one_more live.home)) (Known (Some (record li
 abbrev pub take_up : Terms → LiveHome → (homes : ℕ) → Move
 take_up terms live homes =
     if allows homes terms.quota then move (answers.New (taken_up terms live.home))
-        (Known (Some (record live { home = taken_up terms live.home }))) (homes + 1)
+    (Known (Some (record live { home = taken_up terms live.home }))) (homes + 1)
     else move answers.Quota (Known (Some live)) homes
 
 -- a reference to the home that there is

@@ -1,7 +1,6 @@
 -- What the table of a core's keys has to do with its history.
-use Rattle.std.specs.Prelude.{◌≡◌, ℕ, ◌+◌, ◌≤◌, List, length, slice_index_or, Option, None, Some}
+use Rattle.std.specs.Prelude.{◌≡◌, ℕ, ◌+◌, ◌≤◌, List, length, slice_index_or}
 use Rattle.machine_model.specs.Histories.{History}
-use Rattle.ddt_entry.specs.declared.entry.Home.{Home}
 use Rattle.live_core.specs.declared.steps.KeyState.{KeyState}
 use Rattle.live_core.specs.declared.steps.KeyState.TheVariants.{Idle}
 use Rattle.live_core.specs.declared.steps.Step.{Step}

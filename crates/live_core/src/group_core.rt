@@ -36,8 +36,11 @@ impl<T: TellsBase> Model for Core<T> {
 
     ghost Value = { CoreView };
 
-    ghost view = { λ c. record { base = record { told = T.told c.told.value; terms = c.table.terms }; history = c.table.events.items;
-        spare = vec_capacity c.table.events - vec_len c.table.events } };
+    ghost view = { λ c. record {
+      base = record { told = T.told c.told.value; terms = c.table.terms };
+      history = c.table.events.items;
+      spare = vec_capacity c.table.events - vec_len c.table.events;
+    } };
 }
 
 impl<T: TellsBase> Core<T> {
@@ -58,8 +61,13 @@ impl<T: TellsBase> Core<T> {
         requires few { (length keys.now ≤ 65536) × (commands ≤ 65536) }
         requires homes { homes ≤ most_before }
         ensures told { IfOk result (λ core. core.base.told ≡ T.told told.now) }
-        ensures terms { IfOk result (λ core. core.base.terms ≡ record { keys = length keys.now; homes = homes; quota = quota;
-            number = number; moment = moment }) }
+        ensures terms { IfOk result (λ core. core.base.terms ≡ record {
+          keys = length keys.now;
+          homes = homes;
+          quota = quota;
+          number = number;
+          moment = moment;
+        }) }
         ensures fresh { IfOk result (λ core. core.history ≡ []) }
         ensures room { IfOk result (λ core. 3 * commands ≤ core.spare) }
     {

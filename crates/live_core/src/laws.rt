@@ -4,7 +4,7 @@ ghost use Rattle.std.specs.Prelude.{◌≡◌, ℕ, ◌+◌, ◌≤◌, Bool, tr
 ghost use Rattle.std.specs.List.{AllByRecursion, list_all, list_any};
 ghost use Rattle.ddt_entry.specs.declared.entry.Home.{Home};
 ghost use Rattle.machine_model.specs.declared.machine.Event.{Event};
-ghost use Rattle.machine_model.specs.Histories.{History, kept_of};
+ghost use Rattle.machine_model.specs.Histories.{History, IsLegal, kept_of};
 ghost use Rattle.live_core.specs.declared.steps.Step.{Step};
 ghost use Rattle.live_core.specs.declared.steps.Step.TheVariants.{Claim, Loaded};
 ghost use Rattle.live_core.specs.declared.steps.Answer.{Answer};
@@ -16,7 +16,7 @@ ghost use Rattle.live_core.specs.Moves.{count_in, is_kept};
 ghost use Rattle.live_core.specs.Cores.{first_core, core_at, answer_at};
 ghost use Rattle.live_core.specs.Events.{is_known, gives_up, loads_key, is_stray, AreAnswered, loaded, gains, losses, how_many, is_told_live, IsHistory};
 ghost use Rattle.live_core.specs.Runs.{core_of, history_of};
-ghost use Rattle.live_core.specs.Views.{keeps};
+ghost use Rattle.live_core.specs.Views.{keeps, reply};
 
 /// At most one lane leads a key.
 pub fn one_lane_leads()
@@ -36,7 +36,11 @@ pub fn keys_are_loaded_once()
     // Once it is known it is known for ever: neither idle nor led.
     ensures known { (terms : Terms) (before more : History Step Answer) (key : ℕ) → is_known ((core_at terms before).states key) ≡ true
         → is_known ((core_at terms (before ++ more)).states key) ≡ true }
-    // Where a home was taken in, each later one is without a meaning.
+    // That a home was taken in makes its key known.
+    ensures after { (terms : Terms) (before more : History Step Answer) (lane key : ℕ) (home : Option Home)
+        → answer_at terms before (Loaded lane key home) ≡ answers.Done
+        → is_known ((core_at terms (before ++ record { step = Loaded lane key home; answer = answers.Done } ∷ more)).states key) ≡ true }
+    // Each later one is without a meaning.
     ensures once { (terms : Terms) (before between : History Step Answer) (lane other key : ℕ) (home late : Option Home)
         → answer_at terms before (Loaded lane key home) ≡ answers.Done
         → answer_at terms (before ++ record { step = Loaded lane key home; answer = answers.Done } ∷ between) (Loaded other key late)
@@ -76,4 +80,12 @@ pub fn history_is_what_was_kept()
     ensures legal { (base : Base) (steps : List Step) → AllByRecursion (Fits base) steps
         → list_all (λ (e : Event Step Answer). not (is_stray e.answer)) (history_of base.terms steps) ≡ true
         → IsHistory base (history_of base.terms steps) }
+{}
+
+/// What a lock tells of a core's history is what these laws ask for.
+pub fn legal_histories_meet_the_laws()
+    ensures answered { (base : Base) (history : History Step Answer) → IsLegal Fits reply base [] history
+        → AreAnswered base.terms (first_core base.terms) history }
+    ensures loads { (base : Base) (history : History Step Answer) → IsLegal Fits reply base [] history
+        → AllByRecursion (λ (e : Event Step Answer). IsLoad base e.step) history }
 {}

@@ -213,12 +213,14 @@ fn refer_to(
 {
     match verdict {
         Verdict::Trust => share(terms, live, homes),
-        Verdict::Same { place: at, body: its } if is_its(live, at, its) => {
-            share(terms, live, homes)
-        }
-        Verdict::Differs { place: at, body: its } if is_its(live, at, its) => {
-            part(terms, body, place, live, homes)
-        }
+        Verdict::Same {
+            place: at,
+            body: its,
+        } if is_its(live, at, its) => { share(terms, live, homes) }
+        Verdict::Differs {
+            place: at,
+            body: its,
+        } if is_its(live, at, its) => { part(terms, body, place, live, homes) }
         _ => again(Some(live), homes),
     }
 }

@@ -47,7 +47,10 @@ pub enum Verdict {
 #[derive(Clone, Copy, Debug, PartialEq, Eq)]
 pub enum Step {
     /// Asks for the state of a key, to look it up where nobody has.
-    Claim { lane: u32, key: u32 },
+    Claim {
+        lane: u32,
+        key: u32,
+    },
     /// The leader tells what the table says.
     Loaded {
         lane: u32,
@@ -55,7 +58,10 @@ pub enum Step {
         home: Option<Home>,
     },
     /// The leader couldn't read the table.
-    Failed { lane: u32, key: u32 },
+    Failed {
+        lane: u32,
+        key: u32,
+    },
     /// A write asks for a reference to its key's home; a new home lies at `place`.
     Ref {
         lane: u32,

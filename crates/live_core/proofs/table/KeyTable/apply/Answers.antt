@@ -1,5 +1,3 @@
-use Rattle.std.proofs.Common.{◌≡◌, ℕ, refl, sym, ◌∙◌}
-use Rattle.std.proofs.lemmas.List.{length-set}
 use Rattle.live_core.proofs.Growing.{homes_now, few_now, small_now, states_now}
 use Rattle.live_core.proofs.table.KeyTable.apply.Goals as goal
 
