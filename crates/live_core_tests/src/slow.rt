@@ -34,21 +34,26 @@ fn home_in(state: KeyState) -> Option<LiveHome> {
     }
 }
 
+/// The step's own bytes, where it is a reference with this place.
+fn own_body(step: Step, at: u64) -> Option<Body> {
+    match step {
+        Step::Ref {
+            lane,
+            index,
+            place,
+            ..
+        } if place == at => Some(Body::Command { lane, index }),
+        _ => None,
+    }
+}
+
 /// The home after a reference: with the bytes of the step where it lies at the step's place, else with those of before.
 fn after_ref(state: KeyState, step: Step, home: Home) -> KeyState {
-    let body = match (step, home_in(state)) {
-        (
-            Step::Ref {
-                lane,
-                index,
-                place,
-                ..
-            },
-            _,
-        ) if place == home.place => Body::Command { lane, index },
-        (_, Some(live)) => live.body,
-        (_, None) => Body::Disk,
+    let before = match home_in(state) {
+        Some(live) => live.body,
+        None => Body::Disk,
     };
+    let body = own_body(step, home.place).unwrap_or(before);
     KeyState::Known(Some(LiveHome { home, body }))
 }
 
@@ -114,15 +119,21 @@ pub fn is_live(state: KeyState) -> bool {
     }
 }
 
+/// Whether the home lies at this place and has these bytes.
+fn is_home(known: Option<LiveHome>, place: u64, body: Body) -> bool {
+    match known {
+        Some(live) => live.home.place == place && live.body == body,
+        None => false,
+    }
+}
+
 /// Whether the verdict is on what is known of the key.
 fn agrees(verdict: Verdict, known: Option<LiveHome>) -> bool {
-    match (verdict, known) {
-        (Verdict::Trust, _) => true,
-        (Verdict::Absent, None) => true,
-        (Verdict::Same { place, body } | Verdict::Differs { place, body }, Some(live)) => {
-            live.home.place == place && live.body == body
-        }
-        _ => false,
+    match verdict {
+        Verdict::Trust => true,
+        Verdict::Absent => known.is_none(),
+        Verdict::Same { place, body } => is_home(known, place, body),
+        Verdict::Differs { place, body } => is_home(known, place, body),
     }
 }
 
