@@ -1,4 +1,6 @@
 //! A long walk: steps of sixteen lanes over eight keys, by a seed, that a core and the slow machine take side by side.
+ghost use Rattle.std.specs.Prelude.{◌<◌};
+
 use crate::group::{Bench, KEYS};
 use crate::slow::{Slow, States, is_live, of_step, states_after};
 use ddt_entry::Home;
@@ -18,12 +20,14 @@ struct Numbers {
 
 impl Numbers {
     /// A number below a bound.
-    fn below(&mut self, bound: u64) -> u64 {
+    fn below(&mut self, bound: u32) -> u32
+        requires { 0 < bound }
+    {
         self.state = self
             .state
             .wrapping_mul(6_364_136_223_846_793_005)
             .wrapping_add(1_442_695_040_888_963_407);
-        (self.state >> 33).checked_rem(bound).unwrap_or(0)
+        ((self.state >> 33) % bound as u64) as u32
     }
 }
 
@@ -93,8 +97,8 @@ fn leader_at(numbers: &mut Numbers, state: KeyState, lane: u32) -> u32 {
 
 /// The next step at these states; a new home would lie at the place.
 fn choose(numbers: &mut Numbers, states: &States, place: u64) -> Step {
-    let lane = numbers.below(16) as u32;
-    let key = numbers.below(KEYS as u64) as u32;
+    let lane = numbers.below(16);
+    let key = numbers.below(KEYS);
     let state = states.get(key as usize).copied().unwrap_or(KeyState::Idle);
     match numbers.below(20) {
         0..=2 => Step::Claim { lane, key },
