@@ -122,8 +122,8 @@ counts_from terms core (e ∷ es) key answered =
     let rest = counts_from terms (core_after terms core e.step) es key answered.1 in
     let g = filter_more (λ (event : Event Step Answer). key_in event.step == key && is_gain event.answer) e es in
     let l = filter_more (λ (event : Event Step Answer). key_in event.step == key && is_loss event.answer) e es in
-    let d = sum_by-cons (λ (event : Event Step Answer). if key_in event.step == key && is_done event.answer then handed_in event.step else 0)
-    e es in
+    let d = sum_by-cons
+    (λ (event : Event Step Answer). if key_in event.step == key && is_done event.answer then handed_in event.step else 0) e es in
     omega arith
 
 pub counts_add : (terms : Terms) (history : History Step Answer) (key : ℕ) → AreAnswered terms (first_core terms) history

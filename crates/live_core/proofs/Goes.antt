@@ -164,5 +164,6 @@ goes terms (Failed lane key) state homes = lead_goes (Failed lane key) lane Idle
 goes terms (Ref lane index key verdict place) state homes = on_known_goes (Ref lane index key verdict place)
     (refer terms (Command lane index) verdict place) state homes
     (λ (known : Option LiveHome). refer_goes terms (Ref lane index key verdict place) homes (Command lane index) verdict place known)
-goes terms (Unref lane index key place birth) state homes = on_known_goes (Unref lane index key place birth) (unrefer place birth) state homes
+goes terms (Unref lane index key place birth) state homes = on_known_goes (Unref lane index key place birth)
+    (unrefer place birth) state homes
     (λ (known : Option LiveHome). unrefer_goes terms (Unref lane index key place birth) homes place birth known)

@@ -101,7 +101,8 @@ module _ (terms : Terms) (history : History Step Answer) (step : Step) (m : Move
     where
       by_test : (here : Bool)
           → count_in (if here then m.state else (core_at terms history).states key) ≤ most_before + length later
-      by_test true = let grows = counts_grow step _ _ (length history) m went load (small (key_in step)) in let long = length_now in omega arith
+      by_test true = let grows = counts_grow step _ _ (length history) m went load (small (key_in step)) in
+          let long = length_now in omega arith
       by_test false = let before : count_in ((core_at terms history).states key) ≤ most_before + length history = small key in
           let long = length_now in omega arith
 

@@ -57,7 +57,8 @@ unkept_same terms core step out =
 -- one event more is one step more
 pub core_longer : (terms : Terms) (history : History Step Answer) (event : Event Step Answer)
     → core_at terms (history ++ event ∷ []) ≡ core_after terms (core_at terms history) event.step
-core_longer terms history event = fold-append (λ core (e : Event Step Answer). core_after terms core e.step) (first_core terms) history (event ∷ [])
+core_longer terms history event =
+    fold-append (λ core (e : Event Step Answer). core_after terms core e.step) (first_core terms) history (event ∷ [])
 
 -- what a step adds to the history leads to what the step comes to
 pub core_kept : (terms : Terms) (history : History Step Answer) (step : Step)

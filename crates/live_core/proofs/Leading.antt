@@ -36,7 +36,8 @@ put_here at state states = ap (λ (b : Bool). if b then state else states at) (e
 abbrev pub goes_on : Terms → CoreState → List (Event Step Answer) → CoreState
 goes_on terms core events = fold (λ at event. core_after terms at event.step) core events
 
-pub core_beyond : (terms : Terms) (before more : History Step Answer) → core_at terms (before ++ more) ≡ goes_on terms (core_at terms before) more
+pub core_beyond : (terms : Terms) (before more : History Step Answer)
+    → core_at terms (before ++ more) ≡ goes_on terms (core_at terms before) more
 core_beyond terms before more = fold-append (λ core (e : Event Step Answer). core_after terms core e.step) (first_core terms) before more
 
 -- what each step but some keeps of a key's state, all of them keep
@@ -52,7 +53,8 @@ module _ (terms : Terms) (key : ℕ) (P : KeyState → Type 0) (breaks : Step �
           (subst (λ (k : ℕ). P (core.states k)) (sym one) p)
       by_test false test = p
 
-  pub kept_by_all : (core : CoreState) (events : List (Event Step Answer)) → list_any (λ (e : Event Step Answer). breaks e.step) events ≡ false
+  pub kept_by_all : (core : CoreState) (events : List (Event Step Answer))
+      → list_any (λ (e : Event Step Answer). breaks e.step) events ≡ false
       → P (core.states key) → P ((goes_on terms core events).states key)
   kept_by_all core [] safe p = p
   kept_by_all core (e ∷ es) safe p =

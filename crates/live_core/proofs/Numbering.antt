@@ -25,7 +25,8 @@ use Rattle.live_core.proofs.Counting.{bit}
 many_same : (f g : ℕ → Bool) (n : ℕ) → ((k : ℕ) → k < n → f k ≡ g k) → how_many f n ≡ how_many g n
 many_same f g zero same = refl
 many_same f g (suc n) same =
-    let rest = many_same f g n (λ k less. same k (omega arith)) in let here : bit (f n) ≡ bit (g n) = ap bit (same n (omega arith)) in omega arith
+    let rest = many_same f g n (λ k less. same k (omega arith)) in
+    let here : bit (f n) ≡ bit (g n) = ap bit (same n (omega arith)) in omega arith
 
 -- one number changes
 many_changed : (f g : ℕ → Bool) (k n : ℕ) → k < n → ((j : ℕ) → j ≢ k → f j ≡ g j) → how_many f n + bit (g k) ≡ how_many g n + bit (f k)
@@ -99,7 +100,8 @@ module _ (base : Base) (homes : List (Option Home)) (told : base.told.homes ≡ 
       let one = ap (λ (x : KeyState). told_bit (key_in step) x) s in let two = ap (λ (x : KeyState). bit (is_live x)) s in omega arith
   shifts step state number m load some (leads by k e before s h a) =
       let one = ap (λ (x : KeyState). told_bit (key_in step) x) s in let two = ap (λ (x : KeyState). bit (is_live x)) s in
-      let three = ap (λ (x : KeyState). told_bit (key_in step) x) before in let four = ap (λ (x : KeyState). bit (is_live x)) before in omega arith
+      let three = ap (λ (x : KeyState). told_bit (key_in step) x) before in
+      let four = ap (λ (x : KeyState). bit (is_live x)) before in omega arith
   shifts step state number m load some (loads by k home e before s h a) =
       let one = ap (λ (x : KeyState). told_bit (key_in step) x) s in let two = ap (λ (x : KeyState). bit (is_live x)) s in
       let three = ap (λ (x : KeyState). told_bit (key_in step) x) before in let four = ap (λ (x : KeyState). bit (is_live x)) before in
@@ -107,7 +109,8 @@ module _ (base : Base) (homes : List (Option Home)) (told : base.told.homes ≡ 
       let five = ap bit (ap (is_told_live homes) at ∙ load_live step by k home e load) in omega arith
   shifts step state number m load some (fails by k e before s h a) =
       let one = ap (λ (x : KeyState). told_bit (key_in step) x) s in let two = ap (λ (x : KeyState). bit (is_live x)) s in
-      let three = ap (λ (x : KeyState). told_bit (key_in step) x) before in let four = ap (λ (x : KeyState). bit (is_live x)) before in omega arith
+      let three = ap (λ (x : KeyState). told_bit (key_in step) x) before in
+      let four = ap (λ (x : KeyState). bit (is_live x)) before in omega arith
   shifts step state number m load some (news known next before none s one h a) =
       let told_now = ap (λ (x : KeyState). told_bit (key_in step) x) s in
       let told_then = ap (λ (x : KeyState). told_bit (key_in step) x) before in
@@ -158,7 +161,8 @@ module _ (base : Base) (homes : List (Option Home)) (told : base.told.homes ≡ 
       let fewer = known_fewer core in
       let enough_of_them = enough in
       let moved_by = shifts step (core.states (key_in step)) core.homes m load
-      (λ has. let some = many_some (λ key. is_live (core.states key)) (key_in step) base.terms.keys inside (bit_is _ has) in omega arith) went in
+      (λ has. let some = many_some (λ key. is_live (core.states key)) (key_in step) base.terms.keys inside (bit_is _ has) in
+      omega arith) went in
       omega arith
     where
       bit_is : (b : Bool) → bit b ≡ 1 → b ≡ true
@@ -168,14 +172,12 @@ module _ (base : Base) (homes : List (Option Home)) (told : base.told.homes ≡ 
   adds_after : (core : CoreState) (step : Step) → IsLoad base step → Adds core → Adds (core_after base.terms core step)
   adds_after core step load adds = by_test (nat_lt (key_in step) base.terms.keys) refl
     where
+      by : Bool → Move
+      by inside = if inside then move_of base.terms step (core.states (key_in step)) core.homes
+          else stray (core.states (key_in step)) core.homes
+
       by_test : (b : Bool) → nat_lt (key_in step) base.terms.keys ≡ b
-          → Adds (record {
-            states = put (key_in step)
-                (if b then move_of base.terms step (core.states (key_in step)) core.homes else stray (core.states (key_in step)) core.homes).state
-                core.states;
-            homes = (if b then move_of base.terms step (core.states (key_in step)) core.homes
-                else stray (core.states (key_in step)) core.homes).homes;
-          })
+          → Adds (record { states = put (key_in step) (by b).state core.states; homes = (by b).homes })
       by_test true e = let inside : key_in step < base.terms.keys = grind (arith, nat_tests) in
           adds_inside core step (move_of base.terms step (core.states (key_in step)) core.homes) inside load
           (goes base.terms step (core.states (key_in step)) core.homes) adds

@@ -14,7 +14,8 @@ core_of terms steps = fold (core_after terms) (first_core terms) steps
 -- of steps from a core on, those that are kept, with their answers
 abbrev pub kept_from : Terms → CoreState → List Step → History Step Answer
 kept_from terms core [] = []
-kept_from terms core (step ∷ steps) = kept_of keeps step (moved terms core step).answer ++ kept_from terms (core_after terms core step) steps
+kept_from terms core (step ∷ steps) =
+    kept_of keeps step (moved terms core step).answer ++ kept_from terms (core_after terms core step) steps
 
 -- the history that the steps leave
 abbrev pub history_of : Terms → List Step → History Step Answer

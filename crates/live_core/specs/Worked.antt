@@ -3,14 +3,16 @@ use Rattle.std.specs.Prelude.{◌≡◌, ℕ, List, [], ◌∷◌, None, Some}
 use Rattle.machine_model.specs.declared.machine.Event.{Event}
 use Rattle.live_core.specs.declared.steps.Body.TheVariants.{Disk, Command}
 use Rattle.live_core.specs.declared.steps.LiveHome.{LiveHome}
+use Rattle.live_core.specs.declared.steps.KeyState.{KeyState}
 use Rattle.live_core.specs.declared.steps.KeyState.TheVariants.{Idle, Led, Known}
+use Rattle.live_core.specs.declared.steps.Verdict.{Verdict}
 use Rattle.live_core.specs.declared.steps.Verdict.TheVariants.{Trust, Absent, Same, Differs}
 use Rattle.live_core.specs.declared.steps.Step.{Step}
 use Rattle.live_core.specs.declared.steps.Step.TheVariants.{Claim, Loaded, Failed, Ref, Unref}
 use Rattle.live_core.specs.declared.steps.Answer.{Answer}
 use Rattle.live_core.specs.declared.steps.Answer.TheVariants as answers
 use Rattle.live_core.specs.declared.steps.Terms.{Terms}
-use Rattle.live_core.specs.Moves.{move, move_of}
+use Rattle.live_core.specs.Moves.{one_more, move, move_of}
 use Rattle.live_core.specs.Cores.{first_core, moved}
 use Rattle.live_core.specs.Runs.{core_of, history_of}
 
@@ -32,6 +34,18 @@ made = record { home = record { place = 50; birth = 7; since = 1000; count = 1 }
 abbrev pub taken : LiveHome
 taken = record { home = record { place = 40; birth = 3; since = 1000; count = 1 }; body = Disk }
 
+-- the key's home is the stored one
+abbrev pub known : (count : ℕ) → KeyState
+known count = Known (Some (stored count))
+
+-- command 9 of lane 5 asks for a reference, and would make its home at place 50
+abbrev pub want : Verdict → Step
+want verdict = Ref 5 9 1 verdict 50
+
+-- lane 5 frees a pointer with this place and birth
+abbrev pub give : (place birth : ℕ) → Step
+give place birth = Unref 5 9 1 place birth
+
 pub record WorkedSteps : Type 0 where
   -- nobody has asked for the key
   pub claim_idle : move_of plenty (Claim 5 1) Idle 2 ≡ move answers.Lead (Led 5) 2
@@ -42,9 +56,9 @@ pub record WorkedSteps : Type 0 where
   -- the key is known to have no home
   pub claim_none : move_of plenty (Claim 5 1) (Known None) 2 ≡ move (answers.Known None) (Known None) 2
   -- its home is known
-  pub claim_known : move_of plenty (Claim 5 1) (Known (Some (stored 2))) 2 ≡ move (answers.Known (Some (stored 2))) (Known (Some (stored 2))) 2
+  pub claim_known : move_of plenty (Claim 5 1) (known 2) 2 ≡ move (answers.Known (Some (stored 2))) (known 2) 2
   -- the leader has found a home
-  pub loaded : move_of plenty (Loaded 5 1 (Some (stored 2).home)) (Led 5) 2 ≡ move answers.Done (Known (Some (stored 2))) 2
+  pub loaded : move_of plenty (Loaded 5 1 (Some (stored 2).home)) (Led 5) 2 ≡ move answers.Done (known 2) 2
   -- the leader has found none
   pub loaded_none : move_of plenty (Loaded 5 1 None) (Led 5) 2 ≡ move answers.Done (Known None) 2
   -- it isn't the leader
@@ -52,7 +66,7 @@ pub record WorkedSteps : Type 0 where
   -- nobody leads the key
   pub loaded_idle : move_of plenty (Loaded 5 1 None) Idle 2 ≡ move answers.Stray Idle 2
   -- the key is known already
-  pub loaded_known : move_of plenty (Loaded 5 1 None) (Known (Some (stored 2))) 2 ≡ move answers.Stray (Known (Some (stored 2))) 2
+  pub loaded_known : move_of plenty (Loaded 5 1 None) (known 2) 2 ≡ move answers.Stray (known 2) 2
   -- the leader couldn't read the table
   pub failed : move_of plenty (Failed 5 1) (Led 5) 2 ≡ move answers.Done Idle 2
   -- it isn't the leader
@@ -62,67 +76,69 @@ pub record WorkedSteps : Type 0 where
   -- the key is known already
   pub failed_known : move_of plenty (Failed 5 1) (Known None) 2 ≡ move answers.Stray (Known None) 2
   -- a first home
-  pub trust_none : move_of plenty (Ref 5 9 1 Trust 50) (Known None) 2 ≡ move (answers.New made.home) (Known (Some made)) 3
+  pub trust_none : move_of plenty (want Trust) (Known None) 2 ≡ move (answers.New made.home) (Known (Some made)) 3
   -- a first home, after a look
-  pub absent_none : move_of plenty (Ref 5 9 1 Absent 50) (Known None) 2 ≡ move (answers.New made.home) (Known (Some made)) 3
+  pub absent_none : move_of plenty (want Absent) (Known None) 2 ≡ move (answers.New made.home) (Known (Some made)) 3
   -- the quota has no room
-  pub trust_none_tight : move_of tight (Ref 5 9 1 Trust 50) (Known None) 2 ≡ move answers.Quota (Known None) 2
+  pub trust_none_tight : move_of tight (want Trust) (Known None) 2 ≡ move answers.Quota (Known None) 2
   -- the quota has room for one
-  pub trust_none_just : move_of tight (Ref 5 9 1 Trust 50) (Known None) 1 ≡ move (answers.New made.home) (Known (Some made)) 2
+  pub trust_none_just : move_of tight (want Trust) (Known None) 1 ≡ move (answers.New made.home) (Known (Some made)) 2
   -- one reference more
-  pub trust_live : move_of plenty (Ref 5 9 1 Trust 50) (Known (Some (stored 2))) 2 ≡ move (answers.Hit (stored 3).home) (Known (Some (stored 3))) 2
+  pub trust_live : move_of plenty (want Trust) (known 2) 2 ≡ move (answers.Hit (stored 3).home) (known 3) 2
   -- the quota isn't asked for it
-  pub trust_live_tight : move_of tight (Ref 5 9 1 Trust 50) (Known (Some (stored 2))) 2 ≡ move (answers.Hit (stored 3).home) (Known (Some (stored 3))) 2
+  pub trust_live_tight : move_of tight (want Trust) (known 2) 2 ≡ move (answers.Hit (stored 3).home) (known 3) 2
   -- the bytes were compared
-  pub same_live : move_of plenty (Ref 5 9 1 (Same 40 Disk) 50) (Known (Some (stored 2))) 2 ≡ move (answers.Hit (stored 3).home) (Known (Some (stored 3))) 2
+  pub same_live : move_of plenty (want (Same 40 Disk)) (known 2) 2 ≡ move (answers.Hit (stored 3).home) (known 3) 2
   -- with those of a command
-  pub same_command : move_of plenty (Ref 5 9 1 (Same 50 (Command 5 9)) 51) (Known (Some made)) 2 ≡ move (answers.Hit (record made.home { count = 2 })) (Known (Some (record made { home = record made.home { count = 2 } }))) 2
+  pub same_command : move_of plenty (want (Same 50 (Command 5 9))) (Known (Some made)) 2
+      ≡ move (answers.Hit (one_more made.home)) (Known (Some (record made { home = one_more made.home }))) 2
   -- the home has other bytes
-  pub differs_live : move_of plenty (Ref 5 9 1 (Differs 40 Disk) 50) (Known (Some (stored 2))) 2 ≡ move answers.Clash (Known (Some (stored 2))) 2
+  pub differs_live : move_of plenty (want (Differs 40 Disk)) (known 2) 2 ≡ move answers.Clash (known 2) 2
   -- a waiting home is taken up
-  pub trust_waiting : move_of plenty (Ref 5 9 1 Trust 50) (Known (Some (stored 0))) 2 ≡ move (answers.New taken.home) (Known (Some taken)) 3
+  pub trust_waiting : move_of plenty (want Trust) (known 0) 2 ≡ move (answers.New taken.home) (Known (Some taken)) 3
   -- after a look too
-  pub same_waiting : move_of plenty (Ref 5 9 1 (Same 40 Disk) 50) (Known (Some (stored 0))) 2 ≡ move (answers.New taken.home) (Known (Some taken)) 3
+  pub same_waiting : move_of plenty (want (Same 40 Disk)) (known 0) 2 ≡ move (answers.New taken.home) (Known (Some taken)) 3
   -- a new home takes its place
-  pub differs_waiting : move_of plenty (Ref 5 9 1 (Differs 40 Disk) 50) (Known (Some (stored 0))) 2 ≡ move (answers.New made.home) (Known (Some made)) 3
+  pub differs_waiting : move_of plenty (want (Differs 40 Disk)) (known 0) 2 ≡ move (answers.New made.home) (Known (Some made)) 3
   -- the quota has no room
-  pub trust_waiting_tight : move_of tight (Ref 5 9 1 Trust 50) (Known (Some (stored 0))) 2 ≡ move answers.Quota (Known (Some (stored 0))) 2
+  pub trust_waiting_tight : move_of tight (want Trust) (known 0) 2 ≡ move answers.Quota (known 0) 2
   -- nor for a new home
-  pub differs_waiting_tight : move_of tight (Ref 5 9 1 (Differs 40 Disk) 50) (Known (Some (stored 0))) 2 ≡ move answers.Quota (Known (Some (stored 0))) 2
+  pub differs_waiting_tight : move_of tight (want (Differs 40 Disk)) (known 0) 2 ≡ move answers.Quota (known 0) 2
   -- there is a home by now
-  pub absent_some : move_of plenty (Ref 5 9 1 Absent 50) (Known (Some (stored 2))) 2 ≡ move (answers.Again (Some (stored 2))) (Known (Some (stored 2))) 2
+  pub absent_some : move_of plenty (want Absent) (known 2) 2 ≡ move (answers.Again (Some (stored 2))) (known 2) 2
   -- there is none any more
-  pub same_none : move_of plenty (Ref 5 9 1 (Same 40 Disk) 50) (Known None) 2 ≡ move (answers.Again None) (Known None) 2
+  pub same_none : move_of plenty (want (Same 40 Disk)) (Known None) 2 ≡ move (answers.Again None) (Known None) 2
   -- nor here
-  pub differs_none : move_of plenty (Ref 5 9 1 (Differs 40 Disk) 50) (Known None) 2 ≡ move (answers.Again None) (Known None) 2
+  pub differs_none : move_of plenty (want (Differs 40 Disk)) (Known None) 2 ≡ move (answers.Again None) (Known None) 2
   -- the block that was compared is another
-  pub same_other_place : move_of plenty (Ref 5 9 1 (Same 41 Disk) 50) (Known (Some (stored 2))) 2 ≡ move (answers.Again (Some (stored 2))) (Known (Some (stored 2))) 2
+  pub same_other_place : move_of plenty (want (Same 41 Disk)) (known 2) 2 ≡ move (answers.Again (Some (stored 2))) (known 2) 2
   -- its bytes are a command's
-  pub same_other_body : move_of plenty (Ref 5 9 1 (Same 40 (Command 5 9)) 50) (Known (Some (stored 2))) 2 ≡ move (answers.Again (Some (stored 2))) (Known (Some (stored 2))) 2
+  pub same_other_body : move_of plenty (want (Same 40 (Command 5 9))) (known 2) 2 ≡ move (answers.Again (Some (stored 2))) (known 2) 2
   -- its bytes are another command's
-  pub same_other_command : move_of plenty (Ref 5 9 1 (Same 50 (Command 5 8)) 51) (Known (Some made)) 2 ≡ move (answers.Again (Some made)) (Known (Some made)) 2
+  pub same_other_command : move_of plenty (want (Same 50 (Command 5 8))) (Known (Some made)) 2
+      ≡ move (answers.Again (Some made)) (Known (Some made)) 2
   -- the block that differs is another
-  pub differs_other_place : move_of plenty (Ref 5 9 1 (Differs 41 Disk) 50) (Known (Some (stored 0))) 2 ≡ move (answers.Again (Some (stored 0))) (Known (Some (stored 0))) 2
+  pub differs_other_place : move_of plenty (want (Differs 41 Disk)) (known 0) 2 ≡ move (answers.Again (Some (stored 0))) (known 0) 2
   -- the key isn't known
-  pub ref_idle : move_of plenty (Ref 5 9 1 Trust 50) Idle 2 ≡ move answers.Stray Idle 2
+  pub ref_idle : move_of plenty (want Trust) Idle 2 ≡ move answers.Stray Idle 2
   -- nor while it is led
-  pub ref_led : move_of plenty (Ref 5 9 1 Trust 50) (Led 5) 2 ≡ move answers.Stray (Led 5) 2
+  pub ref_led : move_of plenty (want Trust) (Led 5) 2 ≡ move answers.Stray (Led 5) 2
   -- one reference less
-  pub unref_counted : move_of plenty (Unref 5 9 1 40 3) (Known (Some (stored 2))) 2 ≡ move answers.Counted (Known (Some (stored 1))) 2
+  pub unref_counted : move_of plenty (give 40 3) (known 2) 2 ≡ move answers.Counted (known 1) 2
   -- the last one
-  pub unref_last : move_of plenty (Unref 5 9 1 40 3) (Known (Some (stored 1))) 2 ≡ move answers.Counted (Known (Some (stored 0))) 1
+  pub unref_last : move_of plenty (give 40 3) (known 1) 2 ≡ move answers.Counted (known 0) 1
   -- none counts the home
-  pub unref_waiting : move_of plenty (Unref 5 9 1 40 3) (Known (Some (stored 0))) 2 ≡ move answers.Loose (Known (Some (stored 0))) 2
+  pub unref_waiting : move_of plenty (give 40 3) (known 0) 2 ≡ move answers.Loose (known 0) 2
   -- the pointer is at another place
-  pub unref_other_place : move_of plenty (Unref 5 9 1 41 3) (Known (Some (stored 2))) 2 ≡ move answers.Loose (Known (Some (stored 2))) 2
+  pub unref_other_place : move_of plenty (give 41 3) (known 2) 2 ≡ move answers.Loose (known 2) 2
   -- or of another group
-  pub unref_other_birth : move_of plenty (Unref 5 9 1 40 4) (Known (Some (stored 2))) 2 ≡ move answers.Loose (Known (Some (stored 2))) 2
+  pub unref_other_birth : move_of plenty (give 40 4) (known 2) 2 ≡ move answers.Loose (known 2) 2
   -- the key has no home
-  pub unref_none : move_of plenty (Unref 5 9 1 40 3) (Known None) 2 ≡ move answers.Loose (Known None) 2
+  pub unref_none : move_of plenty (give 40 3) (Known None) 2 ≡ move answers.Loose (Known None) 2
   -- the key isn't known
-  pub unref_idle : move_of plenty (Unref 5 9 1 40 3) Idle 2 ≡ move answers.Stray Idle 2
+  pub unref_idle : move_of plenty (give 40 3) Idle 2 ≡ move answers.Stray Idle 2
   -- nor while it is led
-  pub unref_led : move_of plenty (Unref 5 9 1 40 3) (Led 5) 2 ≡ move answers.Stray (Led 5) 2
+  pub unref_led : move_of plenty (give 40 3) (Led 5) 2 ≡ move answers.Stray (Led 5) 2
   -- the group has no such key
   pub past_the_keys : (moved plenty (first_core plenty) (Claim 5 4)).answer ≡ answers.Stray
 
