@@ -22,6 +22,7 @@ use Rattle.pool_model.proofs.Putting.{home_of, home_of-known}
 use Rattle.lane_run.specs.Live.{Live, is_change_at, or_below, home_here, put_home}
 use Rattle.lane_run.specs.Going.{IsCourse}
 use Rattle.lane_run.proofs.PutHomes.{entry_at-put_home}
+use Rattle.pool_model.proofs.Keys.{any-insert}
 
 -- the home that the course knows, by its pointers
 pub homes_of : {key_of : List ℕ
@@ -157,23 +158,6 @@ tracked_under key p false counts same = (λ i. counts i && same i)
 pub untracked_other : (key : Key) (p : Pointer) → key_eq p.key key ≡ false → tracks key p ≡ false
 untracked_other key p other = elim (is_tracked p.mark) as (λ b. (b && key_eq p.key key) ≡ false) [ true ↦ other | false ↦ refl ]
 
-pub untracked_any : (key : Key) (p : Pointer) → is_tracked p.mark ≡ false → tracks key p ≡ false
-untracked_any key p uncounted = ap (λ b. b && key_eq p.key key) uncounted
-
--- a test passes on a longer list where it passes on the shorter, or on the new pointer
-pub any_inserted : (test : Pointer → Bool) (p : Pointer) (ps : List Pointer)
-    → list_any test (insert_pointer p ps) ≡ (test p || list_any test ps)
-any_inserted test p [] = refl
-any_inserted test p (q ∷ qs) =
-    elim (comes_before p q) as (λ b. list_any test
-    (cond b (p ∷ q ∷ qs) (q ∷ insert_pointer p qs)) ≡ (test p || (test q || list_any test qs)))
-    [ true ↦ refl | false ↦ ap (λ b. test q || b) (any_inserted test p qs) ∙ turned (test q) (test p) (list_any test qs) ]
-  where
-    turned : (a b c : Bool) → (a || (b || c)) ≡ (b || (a || c))
-    turned true true c = refl
-    turned true false c = refl
-    turned false b c = refl
-
 any_appended : {X : Type 0} (test : X → Bool) (xs : List X) (x : X) → list_any test (xs ++ x ∷ []) ≡ (list_any test xs || test x)
 any_appended test [] x = elim (test x) as (λ b. (b || false) ≡ b) [ true ↦ refl | false ↦ refl ]
 any_appended test (y ∷ ys) x = ap (λ b. test y || b) (any_appended test ys x) ∙ nested (test y) (list_any test ys) (test x)
@@ -190,7 +174,7 @@ taken_more held_slots changes p ps slot was =
     ap (λ b. held_slots || b) (any_appended (is_change_at slot) changes (change_to p))
     ∙ turned held_slots (list_any (is_change_at slot) changes) (is_at 0 slot p)
     ∙ ap (λ b. is_at 0 slot p || b) was
-    ∙ sym (any_inserted (is_at 0 slot) p ps)
+    ∙ sym (any-insert (is_at 0 slot) p ps)
   where
     turned : (a b c : Bool) → (a || (b || c)) ≡ (c || (a || b))
     turned true true true = refl

@@ -39,10 +39,6 @@ any_last test [] x passes = ap (λ b. b || false) passes
 any_last test (y ∷ ys) x passes =
     elim (test y) as (λ b. (b || list_any test (ys ++ x ∷ [])) ≡ true) [ true ↦ refl | false ↦ any_last test ys x passes ]
 
-pub all_more : {X : Type 0} (P : X → Type 0) (xs : List X) (x : X) → AllByRecursion P xs → P x → AllByRecursion P (xs ++ x ∷ [])
-all_more P [] x all here = (here, tt)
-all_more P (y ∷ ys) x all here = (all.0, all_more P ys x all.1 here)
-
 -- a note that is missing where one is not used isn't a used one
 pub not_used : (used : List Bool) (place : ℕ) → slice_index_or used place true ≡ false → slice_index_or used place false ≡ true → ⊥
 not_used [] place free taken = absurd (cc free)

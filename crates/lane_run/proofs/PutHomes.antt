@@ -13,9 +13,7 @@ use Rattle.ddt_entry.specs.Keys.{key_eq}
 use Rattle.ddt_entry.proofs.KeyLaws.{key_eq-symm, key_eq-true}
 use Rattle.pool_model.specs.Table.{entry_at}
 use Rattle.lane_run.specs.Live.{put_home}
-
-none_from : {X : Type 0} (p : X → Bool) (xs : List X) → position p xs ≡ None → position_or_len p xs ≡ length xs
-none_from p xs none = let within = prefix_len-le-length (λ x. not (p x)) xs in grind (arith, common_steps, nat_tests)
+use Rattle.plain_table.proofs.Sets.{none_from}
 
 -- no home of the key: it goes to the end
 put_last : (entry : Entry) (es : List Entry) → position_or_len (λ e. key_eq e.key entry.key) es ≡ length es

@@ -33,8 +33,9 @@ use Rattle.table_state.specs.Slots.{slot_of, kept_of}
 use Rattle.table_state.proofs.UnusedOf.{found_unused}
 use Rattle.lane_run.specs.Live.{Live, or_below, home_here, first_mode, is_taken, write_of, put_home, put_at, with_first, brought, shared, after_row, IsHomeOf, IsReady, IsSince}
 use Rattle.lane_run.proofs.Growing.{one_slot_more}
-use Rattle.lane_run.proofs.Places.{IsNew, all_more}
+use Rattle.lane_run.proofs.Places.{IsNew}
 use Rattle.lane_run.proofs.Openings.{entry_has, found_within}
+use Rattle.pool_model.proofs.Loops.{all_push}
 
 -- the slots of the pool with the group's changes so far
 abbrev pub slots_now : Held → Live → List SlotRecord
@@ -276,7 +277,7 @@ module _ (held : Held) (places : List ℕ) (start i : ℕ) (live : Live) (was : 
         record {
           slots_few = omega (arith, was.slots_few, longer live.slots change);
           slots_within =
-              all_more (ChangesSlotWithin held.sectors (held.group + 1)) live.slots change was.slots_within
+              all_push (ChangesSlotWithin held.sectors (held.group + 1)) live.slots change was.slots_within
               (brought_within held sound slot key content keyed home.place home.birth mark counted.start counted.end counted.born
               counted.birth);
           slots_more = omega (arith, was.slots_more, more);
@@ -315,7 +316,7 @@ module _ (held : Held) (places : List ℕ) (start i : ℕ) (live : Live) (was : 
         record {
           slots_few = omega (arith, was.slots_few, longer live.slots change);
           slots_within =
-              all_more (ChangesSlotWithin held.sectors (held.group + 1)) live.slots change was.slots_within
+              all_push (ChangesSlotWithin held.sectors (held.group + 1)) live.slots change was.slots_within
               (brought_within held sound slot key content keyed place (held.group + 1) mark from within (omega arith) (omega arith));
           slots_more = omega (arith, was.slots_more, more);
           blocks_few = omega (arith, was.blocks_few, longer live.contents stored);
@@ -325,9 +326,9 @@ module _ (held : Held) (places : List ℕ) (start i : ℕ) (live : Live) (was : 
               ∙ ap (λ x. take (length live.contents) places ++ x ∷ []) is
               ∙ sym (take_more places (length live.contents) place below)
               ∙ ap (λ n. take n places) (sym (longer live.contents stored));
-          behind = all_more (λ (x : Stored). 32 ≤ x.place) live.contents stored was.behind from;
-          on_disk = all_more (λ (x : Stored). x.place < held.sectors) live.contents stored was.on_disk within;
-          blocks = all_more (λ (x : Stored). length x.bytes ≤ 4096) live.contents stored was.blocks fits;
+          behind = all_push (λ (x : Stored). 32 ≤ x.place) live.contents stored was.behind from;
+          on_disk = all_push (λ (x : Stored). x.place < held.sectors) live.contents stored was.on_disk within;
+          blocks = all_push (λ (x : Stored). length x.bytes ≤ 4096) live.contents stored was.blocks fits;
           keys_few = omega (arith, was.keys_few, one_or_none (is_tracked mark));
           homes = by_mark most more before mark since;
         }
@@ -425,5 +426,5 @@ module _ (held : Held) (places : List ℕ) (start i : ℕ) (live : Live) (ranged
         with_name keys = if uses_table (first_mode held.modes) then keys ++ key ∷ [] else keys
 
         all_named : (b : Bool) → AllByRecursion (λ k. IsKeyLength k.len) (if b then live.named ++ key ∷ [] else live.named)
-        all_named true = all_more (λ (k : Key). IsKeyLength k.len) live.named key ranged.named keyed.long
+        all_named true = all_push (λ (k : Key). IsKeyLength k.len) live.named key ranged.named keyed.long
         all_named false = ranged.named

@@ -31,11 +31,13 @@ use Rattle.pool_model.proofs.Putting.{left_of, home_of, home_of-known}
 use Rattle.table_state.specs.Over.{StandsOver}
 use Rattle.pool_model.proofs.Lists.{all_from, all_from_both}
 use Rattle.lane_run.specs.Live.{Live, home_here, sector_or, sector_here, first_mode, put_home, write_of, shared, with_first, put_at, noted}
-use Rattle.lane_run.proofs.Places.{IsNew, new_elsewhere, named_more, find_beside, find_new, any_last, all_more}
+use Rattle.lane_run.proofs.Places.{IsNew, new_elsewhere, named_more, find_beside, find_new, any_last}
 use Rattle.lane_run.proofs.Openings.{waiting_is_used, homes_match}
 use Rattle.lane_run.specs.Going.{Trusted, Stands, IsPlaced, NoOtherThere, IsCourse}
 use Rattle.lane_run.proofs.Courses.{homes_of, home_passed, home_joined, home_made, home_here-put, tracked_under, untracked_other}
-use Rattle.lane_run.proofs.Courses.{counts_all, untracked_any, taken_more}
+use Rattle.lane_run.proofs.Courses.{counts_all, taken_more}
+use Rattle.pool_model.proofs.Putting.{untracked}
+use Rattle.pool_model.proofs.Loops.{all_push}
 
 module _ (key_of : List ℕ → Key) (image : Image) (held : Held) (s : Standing) (moment : ℕ) (others : List (List ℕ))
     (over : StandsOver image held s) where
@@ -255,7 +257,7 @@ module _ (key_of : List ℕ → Key) (image : Image) (held : Held) (s : Standing
 
       homes_beside : is_tracked mark ≡ false → (k : Key) → home_here held.table live.homes k ≡ later_home k
       homes_beside uncounts k =
-          homes_of w k ∙ sym (home_passed (found s.table k) (last_tracked k course.earlier) (tracks k) q qs (untracked_any k q uncounts))
+          homes_of w k ∙ sym (home_passed (found s.table k) (last_tracked k course.earlier) (tracks k) q qs (untracked k q uncounts))
 
       homes_with : (since : ℕ) → is_tracked mark ≡ true → since_of mark ≡ since → (k : Key)
           → home_here held.table
@@ -351,7 +353,7 @@ module _ (key_of : List ℕ → Key) (image : Image) (held : Held) (s : Standing
         modes = w.modes;
         quota = w.quota;
         kept = kept_on live (place ∷ more) course q w;
-        unused = all_more (λ (x : Stored). slice_index_or held.used x.place true ≡ false) live.contents stored w.unused is_new.unused;
+        unused = all_push (λ (x : Stored). slice_index_or held.used x.place true ≡ false) live.contents stored w.unused is_new.unused;
         pointers =
             all_insert (IsPlaced held.used (live.contents ++ stored ∷ [])) q qs placed_new
             (all_from (IsPlaced held.used live.contents) (IsPlaced held.used (live.contents ++ stored ∷ [])) placed_still qs w.pointers);

@@ -34,6 +34,7 @@ use Rattle.lane_run.specs.Going.{IsCourse, Trusted, turns_from, first_course, Ha
 use Rattle.lane_run.specs.Live.{Live, first_mode, group_here}
 use Rattle.lane_run.proofs.Leaving.{fresh_given, table_is, pool_stands, can_sync, keeps_waiting, stays_waiting}
 use Rattle.pool_model.specs.Waiting.{WaitingStays}
+use Rattle.pool_model.proofs.Loops.{filter-none}
 
 -- ---- Lane 0 alone
 
@@ -49,10 +50,6 @@ tasks_of-other lane [] all = refl
 tasks_of-other lane (task ∷ tasks) all =
     let elsewhere : (task.lane == suc lane) ≡ false = ne_eqb task.lane (suc lane) (λ e. absurd (omega (arith, e, all.0.lane))) in
     rw elsewhere (tasks_of-other lane tasks all.1)
-
-filter-none : {X : Type 0} (test : X → Bool) (xs : List X) → AllByRecursion (λ x. test x ≡ false) xs → filter test xs ≡ []
-filter-none test [] all = refl
-filter-none test (x ∷ xs) all = rw all.0 (filter-none test xs all.1)
 
 none_above : (tasks : List Task) → AllByRecursion IsFirstWrite tasks → (a n : ℕ)
     → AllByRecursion (λ lane. nat_lt 0 (length (tasks_of lane tasks)) ≡ false) (range_with_len (suc a) n)

@@ -19,9 +19,10 @@ use Rattle.table_state.specs.declared.slot_record.SlotRecord.{SlotRecord}
 use Rattle.pool_model.proofs.Lists.{all_filter, all_from, all_from_both, all_tested}
 use Rattle.pool_import.specs.Marks.{spot_in, counts_for, is_counted}
 use Rattle.pool_import.specs.declared.marks.Spot.{Spot}
-use Rattle.pool_import.proofs.JudgingLists.{every_unfilter, none_passes, list_all-each, each-list_all}
+use Rattle.pool_import.proofs.JudgingLists.{every_unfilter, list_all-each, each-list_all}
 use Rattle.pool_model.proofs.Finding.{found-is, rising_found}
 use Rattle.pool_import.proofs.JudgingFound.{each_found, of_found}
+use Rattle.pool_model.proofs.Loops.{filter-none}
 
 -- ---- Pointers as the table knows them
 
@@ -104,7 +105,7 @@ home_at table key p known is =
 -- none is tracked at a key with no counted home
 none_at : (table : TableState) (key : Key) (ps : List Pointer) → AllByRecursion (IsKnown table) ps → ((home : Home) → found table key ≡ Some home → nat_lt 0 home.count ≡ true → ⊥) → filter (tracks key) ps ≡ []
 none_at table key ps known never =
-    none_passes (tracks key) ps (all_from (IsKnown table) (λ p. tracks key p ≡ false) (λ p is. by_test p is (tracks key p) refl) ps known)
+    filter-none (tracks key) ps (all_from (IsKnown table) (λ p. tracks key p ≡ false) (λ p is. by_test p is (tracks key p) refl) ps known)
   where
     by_test : (p : Pointer) → IsKnown table p → (b : Bool) → tracks key p ≡ b → tracks key p ≡ false
     by_test p is false tracked_is = tracked_is

@@ -21,9 +21,10 @@ use Rattle.pool_model.proofs.Lists.{all_each, all_from}
 use Rattle.pool_model.proofs.TablePuts.{apart_by_order}
 use Rattle.pool_import.specs.Marks.{counts_for, spot_among, spot_of}
 use Rattle.pool_import.specs.declared.marks.Spot.{Spot}
-use Rattle.pool_import.proofs.JudgingLists.{every_at, every_push}
+use Rattle.pool_import.proofs.JudgingLists.{every_at}
 use Rattle.pool_model.proofs.Finding.{found-is}
 use Rattle.pool_import.proofs.JudgingFound.{IsBefore, earlier_yet}
+use Rattle.pool_model.proofs.Loops.{all_push, map-same}
 
 -- what holds of each holds of the one at a place
 every_get : {X : Type 0} (P : X → Type 0) (xs : List X) (i : ℕ) (d : X) → AllByRecursion P xs → i < length xs → P (get_or xs i d)
@@ -56,7 +57,7 @@ pub all_below : (es : List Entry) (at : ℕ) (d : Entry) (key : Key) → AreRisi
 all_below es at d key rising within less =
     let last : IsBelow key (get_or es at d) = ap is_lt less in
     subst (AllByRecursion (IsBelow key)) (sym (take_more es at d within))
-    (every_push (IsBelow key) (take at es) (get_or es at d)
+    (all_push (IsBelow key) (take at es) (get_or es at d)
     (all_from (λ x. IsBefore x (get_or es at d)) (IsBelow key) (λ x earlier. earlier_yet x.key (get_or es at d).key key earlier last) (take at es) (before_at es at d rising within)) last)
 
 -- the entry at a place is above: all from it on are
@@ -113,11 +114,6 @@ home_there es at d key rising there =
 
 -- ---- A count for each
 
--- two functions that agree on each element
-same_map : {X Y : Type 0} (f g : X → Y) (xs : List X) → AllByRecursion (λ x. f x ≡ g x) xs → map f xs ≡ map g xs
-same_map f g [] each = refl
-same_map f g (x ∷ xs) each = ap (λ y. y ∷ map f xs) each.0 ∙ ap (λ l. g x ∷ l) (same_map f g xs each.1)
-
 -- one more at one place is one more for that entry alone
 bumped : (f g : Entry → ℕ) (es : List Entry) (at : ℕ) (e : Entry) → AreRising es → slice_get es at ≡ Some e → g e ≡ f e + 1 → ((x : Entry) → key_eq e.key x.key ≡ false → g x ≡ f x) → set (map f es) at (get_or (map f es) at 0 + 1) ≡ map g es
 bumped f g [] at e rising there more others = absurd (cc there)
@@ -125,7 +121,7 @@ bumped f g (x ∷ xs) zero e rising there more others =
     let one : x ≡ e = cc in
     let here : f x + 1 ≡ g x = ap (λ (y : Entry). f y + 1) one ∙ sym more ∙ ap g (sym one) in
     ap (λ n. n ∷ map f xs) here
-    ∙ ap (λ l. g x ∷ l) (same_map f g xs (all_from (IsBefore x) (λ y. f y ≡ g y) (λ y later. sym (others y (ap (λ (z : Entry). key_eq z.key y.key) (sym one) ∙ apart_by_order x.key y.key later))) xs rising.0))
+    ∙ ap (λ l. g x ∷ l) (map-same f g xs (all_from (IsBefore x) (λ y. f y ≡ g y) (λ y later. sym (others y (ap (λ (z : Entry). key_eq z.key y.key) (sym one) ∙ apart_by_order x.key y.key later))) xs rising.0))
 bumped f g (x ∷ xs) (suc at) e rising there more others =
     ap (λ n. n ∷ set (map f xs) at (get_or (map f xs) at 0 + 1)) (sym (others x (key_eq-symm e.key x.key ∙ apart_by_order x.key e.key (every_at (IsBefore x) xs at e rising.0 there))))
     ∙ ap (λ l. g x ∷ l) (bumped f g xs at e rising.1 there more others)
@@ -155,7 +151,7 @@ and_none false b none = refl
 pub tallies_absent : (homes : List Entry) (spots : List Spot) (i : ℕ) (d : Spot) → i < length spots → AllByRecursion (λ e. key_eq e.key (get_or spots i d).key ≡ false) homes → map (tally (take i spots)) homes ≡ map (tally (take (i + 1) spots)) homes
 tallies_absent homes spots i d within absent =
     let spot = get_or spots i d in
-    same_map (tally (take i spots)) (tally (take (i + 1) spots)) homes
+    map-same (tally (take i spots)) (tally (take (i + 1) spots)) homes
     (all_from (λ (e : Entry). key_eq e.key spot.key ≡ false) (λ e. tally (take i spots) e ≡ tally (take (i + 1) spots) e)
     (λ e other. sym (tally_more spots i d e within ∙ adds_none (tally (take i spots) e) (counts_for e.key spot) (and_none spot.tracked (key_eq spot.key e.key) (key_eq-symm spot.key e.key ∙ other)))) homes absent)
 
@@ -212,6 +208,6 @@ no_tallies (x ∷ xs) spots = ap (λ l. 0 ∷ l) (no_tallies xs spots)
 -- the homes that a table finds tell what its search tells
 pub spots_among : (table : TableState) (slots : List SlotRecord) → IsTable table → map (spot_among (entries_found table)) slots ≡ map (spot_of table) slots
 spots_among table slots is =
-    same_map (spot_among (entries_found table)) (spot_of table) slots
+    map-same (spot_among (entries_found table)) (spot_of table) slots
     (all_each (λ slot. spot_among (entries_found table) slot ≡ spot_of table slot)
     (λ slot. ap (λ (o : Option Home). record { key = slot.pointer.key; place = slot.pointer.place; tracked = is_tracked (mark_of slot.pointer.kind o slot.pointer.place slot.pointer.birth) }) (sym (found-is table slot.pointer.key is))) slots)

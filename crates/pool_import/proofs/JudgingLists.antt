@@ -5,6 +5,7 @@ use Rattle.std.specs.List.{AllByRecursion, list_all}
 use Rattle.std.proofs.lemmas.Bool.{false≢true, and_parts}
 use Rattle.pool_model.specs.Pool.{Pairwise}
 use Rattle.pool_model.proofs.Lists.{all_from_both}
+use Rattle.pool_model.proofs.Loops.{all_push, all_mapped}
 
 -- what holds of each holds of the one at a place
 pub every_at : {X : Type 0} (P : X → Type 0) (xs : List X) (i : ℕ) (x : X) → AllByRecursion P xs → slice_get xs i ≡ Some x → P x
@@ -12,20 +13,10 @@ every_at P [] i x each there = absurd (cc there)
 every_at P (y ∷ ys) zero x each there = let here : y ≡ x = cc in subst P here each.0
 every_at P (y ∷ ys) (suc i) x each there = every_at P ys i x each.1 there
 
--- what holds of each image of a function
-pub every_map : {X Y : Type 0} (P : Y → Type 0) (f : X → Y) (xs : List X) → AllByRecursion (λ x. P (f x)) xs → AllByRecursion P (map f xs)
-every_map P f [] each = tt
-every_map P f (x ∷ xs) each = (each.0, every_map P f xs each.1)
-
 -- and back
 pub every_unmap : {X Y : Type 0} (P : Y → Type 0) (f : X → Y) (xs : List X) → AllByRecursion P (map f xs) → AllByRecursion (λ x. P (f x)) xs
 every_unmap P f [] each = tt
 every_unmap P f (x ∷ xs) each = (each.0, every_unmap P f xs each.1)
-
--- one element more
-pub every_push : {X : Type 0} (P : X → Type 0) (xs : List X) (x : X) → AllByRecursion P xs → P x → AllByRecursion P (xs ++ x ∷ [])
-every_push P [] x each here = (here, tt)
-every_push P (y ∷ ys) x each here = (each.0, every_push P ys x each.1 here)
 
 -- the relation between each earlier one and one that follows
 pub pairs_before : {X : Type 0} (R : X → X → Type 0) (xs : List X) (y : X) (ys : List X) → Pairwise R (xs ++ y ∷ ys) → AllByRecursion (λ x. R x y) xs
@@ -39,12 +30,12 @@ pairs_before R (x ∷ xs) y ys pairs = (middle xs pairs.0, pairs_before R xs y y
 -- one element more, to which each earlier one is related
 pub pairs_push : {X : Type 0} (R : X → X → Type 0) (xs : List X) (y : X) → Pairwise R xs → AllByRecursion (λ x. R x y) xs → Pairwise R (xs ++ y ∷ [])
 pairs_push R [] y pairs each = (tt, tt)
-pairs_push R (x ∷ xs) y pairs each = (every_push (R x) xs y pairs.0 each.0, pairs_push R xs y pairs.1 each.1)
+pairs_push R (x ∷ xs) y pairs each = (all_push (R x) xs y pairs.0 each.0, pairs_push R xs y pairs.1 each.1)
 
 -- a relation between images of a function
 pub pairs_map : {X Y : Type 0} (R : Y → Y → Type 0) (f : X → Y) (xs : List X) → Pairwise (λ a b. R (f a) (f b)) xs → Pairwise R (map f xs)
 pairs_map R f [] pairs = tt
-pairs_map R f (x ∷ xs) pairs = (every_map (R (f x)) f xs pairs.0, pairs_map R f xs pairs.1)
+pairs_map R f (x ∷ xs) pairs = (all_mapped (R (f x)) f xs pairs.0, pairs_map R f xs pairs.1)
 
 -- and back
 pub pairs_unmap : {X Y : Type 0} (R : Y → Y → Type 0) (f : X → Y) (xs : List X) → Pairwise R (map f xs) → Pairwise (λ a b. R (f a) (f b)) xs
@@ -71,11 +62,6 @@ every_unfilter P test (x ∷ xs) each =
     by_test : (b : Bool) → AllByRecursion P (cond b (x ∷ filter test xs) (filter test xs)) → (AllByRecursion P (filter test xs) → AllByRecursion (λ x. test x ≡ true → P x) xs) → (b ≡ true → P x) × AllByRecursion (λ x. test x ≡ true → P x) xs
     by_test true each again = (λ _. each.0, again each.1)
     by_test false each again = (λ is. absurd (false≢true is), again each)
-
--- where none passes, nothing is left
-pub none_passes : {X : Type 0} (test : X → Bool) (xs : List X) → AllByRecursion (λ x. test x ≡ false) xs → filter test xs ≡ []
-none_passes test [] each = refl
-none_passes test (x ∷ xs) each = ap (λ b. cond b (x ∷ filter test xs) (filter test xs)) each.0 ∙ none_passes test xs each.1
 
 -- the test of a whole list
 pub list_all-each : {X : Type 0} (test : X → Bool) (xs : List X) → list_all test xs ≡ true → AllByRecursion (λ x. test x ≡ true) xs

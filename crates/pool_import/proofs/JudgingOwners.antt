@@ -12,7 +12,8 @@ use Rattle.pool_model.specs.Pool.{Pairwise}
 use Rattle.pool_model.proofs.Lists.{all_from}
 use Rattle.pool_import.specs.Marks.{are_shared, go_apart, shares_with, are_owned}
 use Rattle.pool_import.specs.declared.marks.Spot.{Spot}
-use Rattle.pool_import.proofs.JudgingLists.{every_at, every_push, pairs_before, pairs_push}
+use Rattle.pool_import.proofs.JudgingLists.{every_at, pairs_before, pairs_push}
+use Rattle.pool_model.proofs.Loops.{all_push}
 
 -- ---- Sharing
 
@@ -78,20 +79,20 @@ slice_get-last (z ∷ xs) x = slice_get-last xs x
 
 -- one more that lies elsewhere
 owner_past : (done : List Spot) (s n : ℕ) (x : Spot) → (x.place == s) ≡ false → Owner done s n → Owner (done ++ x ∷ []) s n
-owner_past done s n x elsewhere (none each) = none (every_push (λ (y : Spot). (y.place == s) ≡ false) done x each elsewhere)
+owner_past done s n x elsewhere (none each) = none (all_push (λ (y : Spot). (y.place == s) ≡ false) done x each elsewhere)
 owner_past done s n x elsewhere (some i o there lies each) =
-    some i o (slice_get-front done (x ∷ []) i o there) lies (every_push (IsOf s o) done x each (λ here. absurd (false≢true (sym elsewhere ∙ here))))
+    some i o (slice_get-front done (x ∷ []) i o there) lies (all_push (IsOf s o) done x each (λ here. absurd (false≢true (sym elsewhere ∙ here))))
 
 -- one more that shares with the owner
 owner_shared : (done : List Spot) (s i : ℕ) (o x : Spot) → slice_get done i ≡ Some o → Lies s o → AllByRecursion (IsOf s o) done → are_shared o x ≡ true → Owner (done ++ x ∷ []) s (i + 1)
 owner_shared done s i o x there lies each shared =
-    some i o (slice_get-front done (x ∷ []) i o there) lies (every_push (IsOf s o) done x each (λ _. inr shared))
+    some i o (slice_get-front done (x ∷ []) i o there) lies (all_push (IsOf s o) done x each (λ _. inr shared))
 
 -- one more that becomes the owner
 owner_new : (done : List Spot) (s : ℕ) (x : Spot) → Lies s x → AllByRecursion (λ (y : Spot). (y.place == s) ≡ false) done → Owner (done ++ x ∷ []) s (length done + 1)
 owner_new done s x lies each =
     some (length done) x (slice_get-last done x) lies
-    (every_push (IsOf s x) done x (all_from (λ (y : Spot). (y.place == s) ≡ false) (IsOf s x) (λ y elsewhere here. absurd (false≢true (sym elsewhere ∙ here))) done each) (λ _. inl refl))
+    (all_push (IsOf s x) done x (all_from (λ (y : Spot). (y.place == s) ≡ false) (IsOf s x) (λ y elsewhere here. absurd (false≢true (sym elsewhere ∙ here))) done each) (λ _. inl refl))
 
 -- each sector has its owner
 record Owners (done : List Spot) (owners : List ℕ) : Type 0 where

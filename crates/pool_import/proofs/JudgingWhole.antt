@@ -28,12 +28,13 @@ use Rattle.pool_import.specs.Marks.{spot_of, spot_in, go_apart, is_counted, are_
 use Rattle.pool_import.specs.Whole.{IsWhole}
 use Rattle.pool_import.specs.declared.marks.Spot.{Spot}
 use Rattle.pool_import.proofs.Lengths.{key_lengths}
-use Rattle.pool_import.proofs.JudgingLists.{every_map, every_unmap, pairs_map, pairs_unmap, pairs_weaker, list_all-each, each-list_all}
+use Rattle.pool_import.proofs.JudgingLists.{every_unmap, pairs_map, pairs_unmap, pairs_weaker, list_all-each, each-list_all}
 use Rattle.pool_import.proofs.JudgingFound.{every_found}
 use Rattle.pool_import.proofs.JudgingHomes.{IsKnown, known_of, homes_if_counted, counted_if_homes}
 use Rattle.pool_import.proofs.JudgingPairs.{apart_if, differ_if, ranged_of, within_of, IsInOrder, slots_differ, together_if_apart, apart_if_together}
 use Rattle.pool_import.proofs.JudgingUsed.{taken_if_free, WasTaken, free_if_taken}
 use Rattle.pool_import.proofs.JudgingOwners.{apart_if_owned, owned_if_apart}
+use Rattle.pool_model.proofs.Loops.{all_mapped}
 
 -- ---- Lists
 
@@ -137,7 +138,7 @@ module _ (seal : Seal) (flat : Flat) (grounds : Grounds seal flat) where
 
   waits_within : AllByRecursion (λ place. place < length with_spots) (places_in waiting)
   waits_within =
-      every_map (λ place. place < length with_spots) (λ (e : Entry). e.home.place) waiting
+      all_mapped (λ place. place < length with_spots) (λ (e : Entry). e.home.place) waiting
       (all_from (IsRoomed seal.sectors) (λ (e : Entry). e.home.place < length with_spots) (λ e roomed. let on = roomed.on_disk in omega (arith, on, length-spots)) waiting waiting_roomed)
 
   -- the homes that wait lie apart where their places differ
@@ -162,7 +163,7 @@ module _ (seal : Seal) (flat : Flat) (grounds : Grounds seal flat) where
 
     sound : AllByRecursion (IsInOrder table seal.sectors seal.group) pool.pointers
     sound =
-        every_map (IsInOrder table seal.sectors seal.group) (pointer_of image table) flat.slots
+        all_mapped (IsInOrder table seal.sectors seal.group) (pointer_of image table) flat.slots
         (all_from (λ slot. is_slot seal.sectors seal.group slot ≡ true) (λ slot. IsInOrder table seal.sectors seal.group (pointer_of image table slot))
         (λ slot is. record { ranged = ranged_of seal.sectors seal.group image table slot is; known = known_of image table slot }) flat.slots grounds.slots)
 
@@ -172,7 +173,7 @@ module _ (seal : Seal) (flat : Flat) (grounds : Grounds seal flat) where
     spots_within : AllByRecursion (λ (y : Spot). y.place < seal.sectors) spots
     spots_within =
         subst (AllByRecursion (λ (y : Spot). y.place < seal.sectors)) same_spots
-        (every_map (λ (y : Spot). y.place < seal.sectors) spot_in pool.pointers
+        (all_mapped (λ (y : Spot). y.place < seal.sectors) spot_in pool.pointers
         (all_from (IsInOrder table seal.sectors seal.group) (λ (p : Pointer). p.place < seal.sectors) (λ p is. is.ranged.on_disk) pool.pointers sound))
 
     slots_apart : Pairwise (λ (p q : Pointer). is_at p.lane p.slot q ≡ false) pool.pointers
@@ -183,7 +184,7 @@ module _ (seal : Seal) (flat : Flat) (grounds : Grounds seal flat) where
     of_pointers P each = every_unmap P spot_in pool.pointers (subst (AllByRecursion P) (sym same_spots) each)
 
     of_spots : (P : Spot → Type 0) → AllByRecursion (λ (p : Pointer). P (spot_in p)) pool.pointers → AllByRecursion P spots
-    of_spots P each = subst (AllByRecursion P) same_spots (every_map P spot_in pool.pointers each)
+    of_spots P each = subst (AllByRecursion P) same_spots (all_mapped P spot_in pool.pointers each)
 
     -- ---- Pages
 
@@ -226,7 +227,7 @@ module _ (seal : Seal) (flat : Flat) (grounds : Grounds seal flat) where
         ∙ ap (λ b. (b || list_any (λ page. page == e.home.place) flat.named) || list_any (λ place. place == e.home.place) (places_of spots)) (not_ring e.home.place roomed.start)
         ∙ ap (λ b. b || list_any (λ place. place == e.home.place) (places_of spots)) alone.page
         ∙ none_any (λ place. place == e.home.place) (places_of spots)
-        (every_map (λ place. (place == e.home.place) ≡ false) (λ (spot : Spot). spot.place) spots
+        (all_mapped (λ place. (place == e.home.place) ≡ false) (λ (spot : Spot). spot.place) spots
         (of_spots (λ spot. (spot.place == e.home.place) ≡ false)
         (all_from_both (IsInOrder table seal.sectors seal.group) (IsApartFrom e) (λ (p : Pointer). (p.place == e.home.place) ≡ false)
         (λ p is apart. eqb_back e.home.place p.place (differ_if e.home.place p.place (run_length e.key) (run_length p.key) roomed.run is.ranged.run apart))
@@ -242,7 +243,7 @@ module _ (seal : Seal) (flat : Flat) (grounds : Grounds seal flat) where
 
     all_free : AllByRecursion IsAlone waiting → AllByRecursion (λ place. get_or with_spots place false ≡ false) (places_in waiting)
     all_free alone =
-        every_map (λ place. get_or with_spots place false ≡ false) (λ (e : Entry). e.home.place) waiting
+        all_mapped (λ place. get_or with_spots place false ≡ false) (λ (e : Entry). e.home.place) waiting
         (all_from_both (IsRoomed seal.sectors) IsAlone (λ (e : Entry). get_or with_spots e.home.place false ≡ false) alone_then waiting waiting_roomed alone)
 
     -- ---- The sectors that are used

@@ -17,6 +17,7 @@ use Rattle.ddt_entry.specs.declared.entry.SlotKind.{SlotKind}
 use Rattle.table_state.specs.SlotRecords.{is_slot, slot_in, slot_of, slot_at, kind_said, kind_at}
 use Rattle.table_state.specs.Sound.{HasLength}
 use Rattle.table_state.specs.declared.slot_record.SlotRecord.{SlotRecord}
+use Rattle.ddt_entry.proofs.RecordLaws.{is_key_length-from}
 
 -- what holds of each item that a record spells
 all_spelled : {X Y : Type 0} (f : List ℕ → Y) (g : X → Y) (P : X → Type 0) → ((r : List ℕ) (x : X) → f r ≡ g x → P x) → (rs : List (List ℕ)) (xs : List X) → map f rs ≡ map g xs → AllByRecursion P xs
@@ -59,15 +60,11 @@ said_of true true gone key home change same = (refl, ap (key_said key) same)
 said_of true false true key home change same = (refl, ap (key_said key) same)
 said_of true false false key home change same = absurd (cc same)
 
--- a length that passed the test
-length_of : (len : ℕ) → is_key_length len ≡ true → IsKeyLength len
-length_of len is = let parts = and_parts (nat_le 1 len) (nat_le len 4096) is in (leb-true 1 len parts.0, leb-true len 4096 parts.1)
-
 -- so its key has a length that a key can have
 change_length : (bytes : List ℕ) (change : Change) → change_in bytes ≡ Ok change → HasLength change
 change_length bytes change same =
     let said_so = said_of (is_key_length (fields_in bytes).key.len) ((fields_in bytes).kind == 1) (((fields_in bytes).kind == 2) && is_no_home (fields_in bytes).home) (fields_in bytes).key (fields_in bytes).home change same in
-    subst (λ (k : Key). IsKeyLength k.len) said_so.1 (length_of (fields_in bytes).key.len said_so.0)
+    subst (λ (k : Key). IsKeyLength k.len) said_so.1 (is_key_length-from (fields_in bytes).key.len said_so.0)
 
 -- and so have the keys of entries that were read
 pub entries_in_range : (records : List (List ℕ)) (entries : List Entry) → map change_in records ≡ map (λ entry. Ok (changes.Entry entry)) entries → AllByRecursion (λ entry. IsKeyLength entry.key.len) entries

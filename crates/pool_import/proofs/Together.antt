@@ -20,6 +20,7 @@ use Rattle.table_state.specs.Flat.{Flat, IsWithin, IsChangeWithin, HoldTogether,
 use Rattle.table_state.specs.declared.slot_record.SlotRecord.{SlotRecord}
 use Rattle.pool_import.proofs.JudgingFound.{earlier_yet}
 use Rattle.pool_import.specs.Together.{is_within, is_change_within, rises, has_lower_key, is_elsewhere, are_within, are_sorted, are_classes, are_counted, hold_together}
+use Rattle.table_state.proofs.SlotsAfter.{stands_through}
 
 -- a test of each item
 all_decided : {X : Type 0} (p : X → Bool) (P : X → Type 0) → ((x : X) → Decides (p x) (P x)) → (xs : List X) → Decides (list_all p xs) (AllByRecursion P xs)
@@ -66,13 +67,6 @@ module _ {X : Type 0} (before : X → X → Bool) (onward : (x y z : X) → befo
   rises-Decides [] = (λ e. tt, λ e. refl)
   rises-Decides (x ∷ xs) = rises-Pairwise x xs
 
--- slots stand one before another in a transitive order
-slots_onward : (a b c : SlotRecord) → stands_before a b ≡ true → stands_before b c ≡ true → stands_before a c ≡ true
-slots_onward a b c one other = numbers a.lane a.slot b.lane b.slot c.lane c.slot one other
-  where
-    numbers : (lane slot lane' slot' lane'' slot'' : ℕ) → (nat_lt lane lane' || ((lane == lane') && nat_lt slot slot')) ≡ true → (nat_lt lane' lane'' || ((lane' == lane'') && nat_lt slot' slot'')) ≡ true → (nat_lt lane lane'' || ((lane == lane'') && nat_lt slot slot'')) ≡ true
-    numbers lane slot lane' slot' lane'' slot'' one other = grind (arith, nat_tests)
-
 keys_onward : (a b c : Entry) → has_lower_key a b ≡ true → has_lower_key b c ≡ true → has_lower_key a c ≡ true
 keys_onward a b c one other = earlier_yet a.key b.key c.key one other
 
@@ -117,7 +111,7 @@ hold_together-Decides seal flat =
         (entries_within flat.unique)) (entries_within flat.duplicate)) (log_within flat.active)) (log_within flat.flushing)
 
     sorted : Decides (are_sorted flat) ((Pairwise (λ a b. stands_before a b ≡ true) flat.slots × AreRising flat.unique) × AreRising flat.duplicate)
-    sorted = Decides-and _ _ (Decides-and _ _ (rises-Decides stands_before slots_onward flat.slots) (rises-Decides has_lower_key keys_onward flat.unique)) (rises-Decides has_lower_key keys_onward flat.duplicate)
+    sorted = Decides-and _ _ (Decides-and _ _ (rises-Decides stands_before stands_through flat.slots) (rises-Decides has_lower_key keys_onward flat.unique)) (rises-Decides has_lower_key keys_onward flat.duplicate)
 
     classes : Decides (are_classes flat) ((AllByRecursion (λ (entry : Entry). entry.home.count ≡ 1) flat.unique × AllByRecursion (λ (entry : Entry). 1 < entry.home.count) flat.duplicate) × AllByRecursion (λ (entry : Entry). entry_at entry.key flat.duplicate ≡ None) flat.unique)
     classes =

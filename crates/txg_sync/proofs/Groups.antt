@@ -23,15 +23,12 @@ use Rattle.table_state.specs.Closing.{block_places}
 use Rattle.txg_sync.specs.Writing.{group_places, with_roots, StoresParts, IsUnsealed, MayBeSealed, Seals, LeavesGate, FollowsSeal}
 use Rattle.txg_sync.proofs.Filling.{AreBehindRing, unsealed_taking, unsealed_stored, unsealed_body, sealed_gate, sealed_opened}
 use Rattle.txg_sync.proofs.Sealing.{Torn-beside, holds_some, only_told}
+use Rattle.pool_model.proofs.Loops.{all_mapped}
 
 -- a fact of each index is one of each element
 pub each_of : {X : Type 0} (P : X → Type 0) (xs : List X) → ((k : ℕ) (d : X) → k < length xs → P (get_or xs k d)) → AllByRecursion P xs
 each_of P [] at = tt
 each_of P (x ∷ xs) at = (at zero x (omega arith), each_of P xs (λ k d within. at (suc k) d (omega (arith, within))))
-
-pub each_mapped : {X Y : Type 0} (P : Y → Type 0) (f : X → Y) (xs : List X) → AllByRecursion (λ x. P (f x)) xs → AllByRecursion P (map f xs)
-each_mapped P f [] all = tt
-each_mapped P f (x ∷ xs) all = (all.0, each_mapped P f xs all.1)
 
 both_lists : (P : ℕ → Type 0) (xs ys : List ℕ) → AllByRecursion P xs → AllByRecursion P ys → AllByRecursion P (xs ++ ys)
 both_lists P [] ys first second = second
@@ -45,12 +42,12 @@ open_behind sectors named (place ∷ places) all = ((is_open-parts sectors named
 pub group_behind : (sectors : ℕ) (contents : List StoredBlock) (parts : List ChainPart) → ((k : ℕ) (d : StoredBlock) → k < length contents → 32 ≤ (get_or contents k d).place) → AreOpen sectors [] (places_in parts) → AreBehindRing (group_places (map stored_of contents) parts)
 group_behind sectors contents parts behind places =
     both_lists (λ place. 32 ≤ place) (block_places (map stored_of contents)) (places_in parts)
-    (each_mapped (λ place. 32 ≤ place) (λ (s : Stored). s.place) (map stored_of contents) (each_mapped (λ (s : Stored). 32 ≤ s.place) stored_of contents (each_of (λ (s : StoredBlock). 32 ≤ s.place) contents behind)))
+    (all_mapped (λ place. 32 ≤ place) (λ (s : Stored). s.place) (map stored_of contents) (all_mapped (λ (s : Stored). 32 ≤ s.place) stored_of contents (each_of (λ (s : StoredBlock). 32 ≤ s.place) contents behind)))
     (open_behind sectors [] (places_in parts) places)
 
 -- blocks lie on the disk
 pub group_within : (sectors : ℕ) (contents : List StoredBlock) → ((k : ℕ) (d : StoredBlock) → k < length contents → (get_or contents k d).place < sectors) → AllByRecursion (λ stored. stored.place < sectors) (map stored_of contents)
-group_within sectors contents within = each_mapped (λ (s : Stored). s.place < sectors) stored_of contents (each_of (λ (s : StoredBlock). s.place < sectors) contents within)
+group_within sectors contents within = all_mapped (λ (s : Stored). s.place < sectors) stored_of contents (each_of (λ (s : StoredBlock). s.place < sectors) contents within)
 
 -- the pointers that were written are the seal's
 pub rooted_is : (seal sealed : Seal) (parts : List ChainPart) (pointers initial : List PagePtr) → sealed ≡ record seal { pointers = pointers } → pointers ≡ roots_of parts ++ drop (length parts) initial → length parts ≡ 5 → drop 5 initial ≡ null_pointer ∷ []

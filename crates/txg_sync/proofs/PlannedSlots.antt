@@ -8,10 +8,6 @@ use Rattle.table_state.specs.Flat.{stands_before}
 use Rattle.table_state.specs.Pools.{insert_slot}
 use Rattle.table_state.specs.declared.slot_record.SlotRecord.{SlotRecord}
 
--- the place that `position` finds, or else the length
-pub unwrap_or-position : {X : Type 0} (p : X → Bool) (xs : List X) → unwrap_or (position p xs) (length xs) ≡ position_or_len p xs
-unwrap_or-position p xs = let within = prefix_len-le-length (λ x. not (p x)) xs in grind (arith, common_steps)
-
 -- a slot goes to the first place whose slot it stands before
 pub insert_slot-insert : (new : SlotRecord) (slots : List SlotRecord) → insert_slot new slots ≡ insert slots (position_or_len (stands_before new) slots) new
 insert_slot-insert new [] = refl

@@ -1,6 +1,7 @@
 use Rattle.table_state.specs.Flat.{stands_before}
-use Rattle.txg_sync.proofs.PlannedSlots.{insert_slot-insert, unwrap_or-position}
+use Rattle.txg_sync.proofs.PlannedSlots.{insert_slot-insert}
 use Rattle.txg_sync.proofs.next_slots.insert_slot.Goals as goal
+use Rattle.pool_model.proofs.Loops.{unwrap_or-position}
 
 pub returns : goal.returns
 returns c =
