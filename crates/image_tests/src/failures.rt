@@ -1,7 +1,7 @@
 use crate::comparing::{assert_same, assert_same_at};
 use crate::crashes::{assert_is_of, homes, slots, two_writes, with_a_pointer};
 use crate::groups::{assert_holds, entry, group_of};
-use crate::silent_disk::{SilentDisk, small_disk};
+use crate::silent_disk::{SilentDisk, calls_of, small_disk};
 use crate::sound_pool::{SoundPool, created, imported};
 use ddt_entry::Entry;
 use grant_book::SectorSet;
@@ -28,7 +28,7 @@ const FAULTS: [(u64, SyncFault); 10] = [
 
 /// Makes a call of a disk fail, counted from the next one on.
 fn fail_call(disk: &mut SilentDisk, failing: u64) {
-    let made = disk.inner.calls_made();
+    let made = calls_of(disk);
     disk.inner.fail_call(made.saturating_add(failing));
 }
 
@@ -114,10 +114,10 @@ fn assert_refused(
     pool: &mut SoundPool,
     closed: &Closed,
 ) {
-    let made = disk.inner.calls_made();
+    let made = calls_of(disk);
     let answer = pool.sync(rt, alloc, disk, closed);
     assert_same(rt, "the fault", answer, Err(SyncFault::Damaged(0)));
-    assert_same(rt, "the calls", disk.inner.calls_made(), made);
+    assert_same(rt, "the calls", calls_of(disk), made);
 }
 
 /// Sees that a group is refused which has blocks up to this sector, before a call of the disk is made.
