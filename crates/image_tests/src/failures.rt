@@ -1,9 +1,10 @@
 use crate::comparing::{assert_same, assert_same_at};
 use crate::crashes::{assert_is_of, homes, slots, two_writes, with_a_pointer};
 use crate::groups::{assert_holds, entry, group_of};
-use crate::silent_disk::{SilentDisk, small_disk};
+use crate::silent_disk::{SilentDisk, calls_of, small_disk};
 use crate::sound_pool::{SoundPool, created, imported};
 use ddt_entry::Entry;
+use grant_book::SectorSet;
 use pool_model::{ChangeList, Closed, Outcome, SyncFault};
 use std::alloc::Global;
 use std::process::Abort;
@@ -27,7 +28,7 @@ const FAULTS: [(u64, SyncFault); 10] = [
 
 /// Makes a call of a disk fail, counted from the next one on.
 fn fail_call(disk: &mut SilentDisk, failing: u64) {
-    let made = disk.inner.calls_made();
+    let made = calls_of(disk);
     disk.inner.fail_call(made.saturating_add(failing));
 }
 
@@ -75,40 +76,55 @@ fn a_read_that_fails_is_told_as_such(rt: HostRuntime) -> Result<(), Fail> {
     assert_fails(&rt, rt.alloc(), &mut disk, &mut pool, fault)
 }
 
-/// An entry for each sector up to this one that a pool doesn't use.
-fn free_up_to(rt: &impl Abort, alloc: Global, pool: &Pool, last: u64) -> Result<Vec<Entry>, Fail> {
+/// An entry for each sector up to this one that isn't used.
+fn free_up_to(
+    rt: &impl Abort,
+    alloc: Global,
+    used: &SectorSet,
+    last: u64,
+) -> Result<Vec<Entry>, Fail> {
     let mut blocks = Vec::new(alloc);
     for place in 32..2048u64 {
-        if place <= last && is_free(rt, pool, place) {
+        if place <= last && is_free(rt, used, place) {
             blocks.push(entry(7, place, 3, 1))?;
         }
     }
     Ok(blocks)
 }
 
-/// Whether a pool doesn't use this sector.
-fn is_free(rt: &impl Abort, pool: &Pool, place: u64) -> bool {
-    assert!(rt; place < pool.used.len());
-    !pool.used.has(place)
+/// Whether this sector isn't used.
+fn is_free(rt: &impl Abort, used: &SectorSet, place: u64) -> bool {
+    assert!(rt; place < used.len());
+    !used.has(place)
 }
 
 /// The group that has a block in each free sector up to this one, and changes nothing.
 fn blocks_up_to(rt: &impl Abort, alloc: Global, pool: &Pool, last: u64) -> Result<Closed, Fail> {
-    let blocks = free_up_to(rt, alloc, pool, last)?;
+    let blocks = free_up_to(rt, alloc, &pool.used, last)?;
     let mut closed = group_of(alloc, &[], blocks.as_slice())?;
     closed.changes = ChangeList::new(alloc);
     Ok(closed)
+}
+
+/// Sees that a group is refused before a call of the disk is made.
+fn assert_refused(
+    rt: &impl Abort,
+    alloc: Global,
+    disk: &mut SilentDisk,
+    pool: &mut SoundPool,
+    closed: &Closed,
+) {
+    let made = calls_of(disk);
+    let answer = pool.sync(rt, alloc, disk, closed);
+    assert_same(rt, "the fault", answer, Err(SyncFault::Damaged(0)));
+    assert_same(rt, "the calls", calls_of(disk), made);
 }
 
 /// Sees that a group is refused which has blocks up to this sector, before a call of the disk is made.
 fn assert_no_room(rt: &impl Abort, alloc: Global, last: u64) -> Result<(), Fail> {
     let (mut disk, mut pool) = with_a_pointer(rt, alloc)?;
     let closed = blocks_up_to(rt, alloc, &pool.pool, last)?;
-    let made = disk.inner.calls_made();
-    let answer = pool.sync(rt, alloc, &mut disk, &closed);
-    let refused = Err(SyncFault::Damaged(0));
-    assert_same_at(rt, "blocks up to", last, answer, refused);
-    assert_same(rt, "the calls", disk.inner.calls_made(), made);
+    assert_refused(rt, alloc, &mut disk, &mut pool, &closed);
     assert_is_of(rt, alloc, &pool, 2)
 }
 

@@ -14,6 +14,11 @@ pub(crate) fn small_disk(alloc: Global) -> Result<SilentDisk, AllocError> {
     })
 }
 
+/// How many calls of a disk were made.
+pub(crate) fn calls_of(disk: &SilentDisk) -> u64 {
+    disk.inner.calls_made()
+}
+
 impl Disk for SilentDisk {
     type Meter = MemMeter;
 

@@ -173,7 +173,8 @@ fn block_is_there(
 /// Sees that a pool has the settings of a group.
 fn settings_are(rt: &impl Abort, sound: &SoundPool, closed: &Closed) {
     assert_same(rt, "the quota", sound.pool.limit, closed.quota);
-    assert_same(rt, "the modes", sound.pool.modes, closed.modes);
+    let (modes, wanted) = (sound.pool.modes.as_slice(), closed.modes.as_slice());
+    assert_same(rt, "the modes", modes, wanted);
 }
 
 /// 200 homes of their own keys, at places from 200 on, made by this group.
@@ -217,15 +218,19 @@ fn put_three(rt: &impl Abort, alloc: Global, filled: &mut Filled) -> Result<(), 
     Ok(())
 }
 
+/// Puts nothing in, then these, and nothing again.
+fn put_all(rt: &impl Abort, alloc: Global, filled: &mut Filled) -> Result<(), Fail> {
+    put(rt, alloc, filled, 2, &[], &[], 0)?;
+    put_three(rt, alloc, filled)?;
+    put_two_hundred(rt, alloc, filled)?;
+    put(rt, alloc, filled, 6, &[], &[], 8)?;
+    Ok(())
+}
+
 #[test]
 fn what_was_synced_is_imported(rt: HostRuntime) -> Result<(), Fail> {
-    let alloc = rt.alloc();
-    let mut filled = new_pool(&rt, alloc)?;
-    put(&rt, alloc, &mut filled, 2, &[], &[], 0)?;
-    put_three(&rt, alloc, &mut filled)?;
-    put_two_hundred(&rt, alloc, &mut filled)?;
-    put(&rt, alloc, &mut filled, 6, &[], &[], 8)?;
-    Ok(())
+    let mut filled = new_pool(&rt, rt.alloc())?;
+    put_all(&rt, rt.alloc(), &mut filled)
 }
 
 /// How many entries and changes the table has after groups 3 to 10 that put nothing in: stored ones, flushing ones,
@@ -268,15 +273,25 @@ fn assert_flushed(
     Ok(())
 }
 
+/// Puts groups in that have nothing, until the logs are flushed.
+fn put_until_flushed(rt: &impl Abort, alloc: Global, filled: &mut Filled) -> Result<(), Fail> {
+    for (group, wanted) in SWAPPED_AND_FLUSHED {
+        put_nothing(rt, alloc, filled, group, wanted)?;
+    }
+    Ok(())
+}
+
+/// Puts one pointer in, and then nothing until the logs are flushed.
+fn put_and_flush(rt: &impl Abort, alloc: Global, filled: &mut Filled) -> Result<(), Fail> {
+    // The entry is on one page all the while, and the slot on another.
+    let home = entry(1, 100, 2, 1);
+    put(rt, alloc, filled, 2, &[slot(0, 0, &home)], &[home], 2)?;
+    put_until_flushed(rt, alloc, filled)?;
+    assert_flushed(rt, alloc, filled, home)
+}
+
 #[test]
 fn the_logs_are_swapped_and_flushed(rt: HostRuntime) -> Result<(), Fail> {
-    // The entry is on one page all the while, and the slot on another.
-    let alloc = rt.alloc();
-    let mut filled = new_pool(&rt, alloc)?;
-    let home = entry(1, 100, 2, 1);
-    put(&rt, alloc, &mut filled, 2, &[slot(0, 0, &home)], &[home], 2)?;
-    for (group, wanted) in SWAPPED_AND_FLUSHED {
-        put_nothing(&rt, alloc, &mut filled, group, wanted)?;
-    }
-    assert_flushed(&rt, alloc, &mut filled, home)
+    let mut filled = new_pool(&rt, rt.alloc())?;
+    put_and_flush(&rt, rt.alloc(), &mut filled)
 }
