@@ -27,7 +27,7 @@ use Rattle.pool_model.proofs.Keys.{keys_in-untracked, length-keys_in_new, keys_i
 use Rattle.pool_model.proofs.Pointers.{all_insert, none_insert, first_has}
 use Rattle.pool_model.proofs.Homes.{left_by, home_now, none_now, uncounted_zero}
 use Rattle.pool_model.proofs.Rows.{FitsHome, FitsFresh, outside, first}
-use Rattle.pool_model.proofs.Putting.{left_of, home_of, home_of-known}
+use Rattle.pool_model.proofs.Putting.{left_of, home_of, home_of-known, untracked}
 use Rattle.table_state.specs.Over.{StandsOver}
 use Rattle.pool_model.proofs.Lists.{all_from, all_from_both}
 use Rattle.lane_run.specs.Live.{Live, home_here, sector_or, sector_here, first_mode, put_home, write_of, shared, with_first, put_at, noted}
@@ -36,7 +36,6 @@ use Rattle.lane_run.proofs.Openings.{waiting_is_used, homes_match}
 use Rattle.lane_run.specs.Going.{Trusted, Stands, IsPlaced, NoOtherThere, IsCourse}
 use Rattle.lane_run.proofs.Courses.{homes_of, home_passed, home_joined, home_made, home_here-put, tracked_under, untracked_other}
 use Rattle.lane_run.proofs.Courses.{counts_all, taken_more}
-use Rattle.pool_model.proofs.Putting.{untracked}
 use Rattle.pool_model.proofs.Loops.{all_push}
 
 module _ (key_of : List ℕ → Key) (image : Image) (held : Held) (s : Standing) (moment : ℕ) (others : List (List ℕ))
