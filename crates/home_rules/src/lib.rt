@@ -15,5 +15,5 @@ mod row;
 
 pub use changes::{change_from, settled};
 pub use row::{
-    Row, Spot, allows, fault_row, home_row, new_row, off_row, table_row, taken_row, verified_row,
+    Row, Spot, fault_row, home_row, new_row, off_row, table_row, taken_row, verified_row,
 };

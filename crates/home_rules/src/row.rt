@@ -3,7 +3,7 @@ ghost use Rattle.std.specs.Option.{option_map};
 ghost use Rattle.ddt_entry.specs.declared.key.Key.{Key};
 ghost use Rattle.pool_model.specs.declared.answers.WriteAnswer.TheVariants as written;
 ghost use Rattle.pool_model.specs.Pool.{plain};
-ghost use Rattle.pool_model.specs.Command.{Known, nowhere, at_fresh, row, allows, new_row, home_row, table_row, verify_row};
+ghost use Rattle.pool_model.specs.Command.{Known, nowhere, at_fresh, row, new_row, home_row, table_row, verify_row};
 ghost use Rattle.home_rules.specs.Rows.{row_of, IsCompared};
 
 use ddt_entry::Home;
@@ -24,17 +24,6 @@ pub enum Spot {
 pub struct Row {
     pub answer: WriteAnswer,
     pub spot: Spot,
-}
-
-/// Whether the quota, if there is one, has room for one more key at 256 bytes each.
-pub fn allows(keys: u64, quota: Option<u64>) -> bool
-    ensures { result ≡ allows keys quota }
-{
-    match quota {
-        None => true,
-        // 256 * (keys + 1) is at most the limit exactly here, and can't pass 64 bits.
-        Some(limit) => keys < limit / 256,
-    }
 }
 
 /// The slot holds a pointer already.

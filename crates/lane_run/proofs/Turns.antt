@@ -7,13 +7,14 @@ use Rattle.std.specs.Option.{option_map}
 use Rattle.ddt_entry.specs.declared.key.Key.{Key}
 use Rattle.ddt_entry.specs.declared.entry.Home.{Home}
 use Rattle.disk_model.specs.Images.{Image}
+use Rattle.quota_rule.specs.Allows.{allows}
 use Rattle.pool_model.specs.declared.commands.Mode.{Mode}
 use Rattle.pool_model.specs.declared.commands.Mode.TheVariants.{Off, On, Verify}
 use Rattle.pool_model.specs.declared.answers.WriteAnswer.TheVariants as written
 use Rattle.pool_model.specs.Pool.{Pointer, Mark, plain, is_at, run_length, mode_of, keys_in}
 use Rattle.pool_model.specs.Plain.{to_write}
 use Rattle.pool_model.specs.Clash.{HasNoOther}
-use Rattle.pool_model.specs.Command.{Turn, Course, Known, Row, Spot, nowhere, at_home, at_fresh, row, known_home, slot_row, verify_row, mode_row, write_row, is_fault, allows, uses_table, placed, naming, replied, after}
+use Rattle.pool_model.specs.Command.{Turn, Course, Known, Row, Spot, nowhere, at_home, at_fresh, row, known_home, slot_row, verify_row, mode_row, write_row, is_fault, uses_table, placed, naming, replied, after}
 use Rattle.pool_model.specs.Group.{Standing, opening_of}
 use Rattle.table_state.specs.Pools.{Held}
 use Rattle.pool_model.proofs.Rows.{SpotFits, FitsHome, FitsFresh, row_fits}

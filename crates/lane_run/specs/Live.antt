@@ -8,6 +8,7 @@ use Rattle.ddt_entry.specs.declared.entry.Home.{Home}
 use Rattle.ddt_entry.specs.declared.entry.Entry.{Entry}
 use Rattle.ddt_entry.specs.declared.entry.Change.{Change}
 use Rattle.disk_model.specs.Images.{Image, sector_at}
+use Rattle.quota_rule.specs.Allows.{allows}
 use Rattle.pool_model.specs.declared.commands.Mode.{Mode}
 use Rattle.pool_model.specs.declared.commands.Mode.TheVariants.{On}
 use Rattle.pool_model.specs.declared.answers.WriteAnswer.{WriteAnswer}
@@ -17,7 +18,7 @@ use Rattle.pool_model.specs.Pool.{Mark, plain, tracked, loose, since_of, is_trac
 use Rattle.pool_model.specs.Plain.{Act, write, read, free, Task, Reply, to_write}
 use Rattle.pool_model.specs.Mirrors.{Stored}
 use Rattle.pool_model.specs.Table.{TableState, found, entry_at}
-use Rattle.pool_model.specs.Command.{Opening, Known, Spot, nowhere, at_home, at_fresh, Row, row, mode_row, allows, is_fault, uses_table, pointer_at}
+use Rattle.pool_model.specs.Command.{Opening, Known, Spot, nowhere, at_home, at_fresh, Row, row, mode_row, is_fault, uses_table, pointer_at}
 use Rattle.pool_model.specs.Group.{settled, change_from}
 use Rattle.table_state.specs.Pools.{Held, is_slot_at, block_sector}
 use Rattle.table_state.specs.Closing.{PlainClosed}

@@ -14,8 +14,9 @@ use crate::block::sector_at;
 use crate::live::LiveGroup;
 use ddt_entry::{Home, Key, KeyOf};
 use disk_model::Disk;
-use home_rules::{Row, allows, fault_row, off_row, table_row, taken_row, verified_row};
+use home_rules::{Row, fault_row, off_row, table_row, taken_row, verified_row};
 use pool_model::{Mode, StoredBlock};
+use quota_rule::allows;
 use table_state::Pool;
 
 /// How lane 0 uses the table.

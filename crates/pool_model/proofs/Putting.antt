@@ -2,6 +2,7 @@
 use Rattle.std.proofs.Common.{◌≡◌, ℕ, Bool, true, false, ◌&&◌, ◌||◌, nat_lt, List, [], ◌∷◌, ◌++◌, length, filter, Option, Some, None, refl, ap, subst, ◌∙◌}
 use Rattle.std.specs.List.{find, list_any}
 use Rattle.std.specs.Option.{option_map}
+use Rattle.quota_rule.specs.Allows.{allows}
 use Rattle.ddt_entry.specs.declared.key.Key.{Key}
 use Rattle.ddt_entry.specs.declared.entry.Home.{Home}
 use Rattle.ddt_entry.specs.Keys.{key_eq}
@@ -9,7 +10,7 @@ use Rattle.pool_model.specs.declared.answers.WriteAnswer.{WriteAnswer}
 use Rattle.pool_model.specs.Pool.{Pointer, tracked, run_length, is_tracked, is_at, tracks, held, mode_of, keys_in, insert_pointer}
 use Rattle.pool_model.specs.Plain.{Act, write, read, free, Task, to_write}
 use Rattle.pool_model.specs.Table.{counted, found}
-use Rattle.pool_model.specs.Command.{Opening, Turn, Course, Spot, nowhere, at_home, at_fresh, Row, known_home, last_tracked, slot_row, mode_row, uses_table, is_fault, allows, pointer_at, next_fresh, placed, naming, replied, after_write, after_act, after}
+use Rattle.pool_model.specs.Command.{Opening, Turn, Course, Spot, nowhere, at_home, at_fresh, Row, known_home, last_tracked, slot_row, mode_row, uses_table, is_fault, pointer_at, next_fresh, placed, naming, replied, after_write, after_act, after}
 use Rattle.pool_model.specs.ByKey.{is_touched, IsWrite}
 use Rattle.pool_model.proofs.Homes.{left_by, home_now, known_home-now}
 use Rattle.pool_model.proofs.Rows.{SpotFits, FitsFresh, outside, first, row_fits}

@@ -1,6 +1,7 @@
 -- One command: what it answers and what it makes of the pool, case by case in the order in which the cases decide.
-use Rattle.std.specs.Prelude.{ℕ, ◌+◌, ◌*◌, Bool, true, false, not, nat_lt, nat_le, List, [], ◌∷◌, ◌++◌, length, take, Option, Some, None, slice_index_or, slice_set, if◌then◌else◌}
+use Rattle.std.specs.Prelude.{ℕ, Bool, true, false, not, nat_lt, List, [], ◌∷◌, ◌++◌, length, take, Option, Some, None, slice_index_or, slice_set, if◌then◌else◌}
 use Rattle.std.specs.Str.{bytes_eq}
+use Rattle.quota_rule.specs.Allows.{allows}
 use Rattle.ddt_entry.specs.Keys.{key_eq}
 use Rattle.ddt_entry.specs.declared.key.Key.{Key}
 use Rattle.ddt_entry.specs.declared.entry.Home.{Home}
@@ -74,11 +75,6 @@ abbrev pub known_home : Opening → Course → Key → Option Known
 known_home opening course key =
     known_or (known_in_table opening key (found opening.table key)) (count_at course.pool key)
     (last_tracked key (course.pool ∷ course.earlier))
-
--- whether the quota, if there is one, has room for one more key at 256 bytes each
-abbrev pub allows : (keys : ℕ) → (quota : Option ℕ) → Bool
-allows keys None = true
-allows keys (Some limit) = nat_le (256 * (keys + 1)) limit
 
 -- where a write puts its pointer: nowhere, at a home, or at a fresh place
 pub data Spot : Type 0 where
