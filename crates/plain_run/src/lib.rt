@@ -16,8 +16,6 @@ mod group;
 mod opening;
 mod row;
 mod standing;
-#[cfg(test)]
-mod tests;
 
 pub use answer::PlainAnswer;
 pub use course::PlainCourse;

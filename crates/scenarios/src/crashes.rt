@@ -128,16 +128,26 @@ fn assert_goes_on(
     assert_runs(rt, alloc, RUN, disk, file, report.as_str())
 }
 
+/// Makes a pool over a disk of which this call alone fails.
+fn fail_make(rt: &impl Abort, alloc: Global, disk: &mut MemDisk, call: u64) -> Result<(), Fail> {
+    disk.fail_call(call);
+    make_over(rt, alloc, disk, call)?;
+    // Calls are counted from 1, so that none fails from here on.
+    disk.fail_call(0);
+    Ok(())
+}
+
+/// Sees that this group is the newest on a disk, and that a session goes on from there.
+fn assert_left(rt: &impl Abort, alloc: Global, disk: &mut MemDisk, group: u64) -> Result<(), Fail> {
+    assert_newest(rt, alloc, disk, group)?;
+    assert_goes_on(rt, alloc, disk, group)
+}
+
 /// Fails this call alone, and sees what is on the disk then, and that a session goes on from there.
 fn fail_at(rt: &impl Abort, alloc: Global, call: u64) -> Result<(), Fail> {
     let mut disk = small_disk(alloc)?;
-    disk.fail_call(call);
-    make_over(rt, alloc, &mut disk, call)?;
-    // Calls are counted from 1, so that none fails from here on.
-    disk.fail_call(0);
-    let group = written_before(call);
-    assert_newest(rt, alloc, &mut disk, group)?;
-    assert_goes_on(rt, alloc, &mut disk, group)
+    fail_make(rt, alloc, &mut disk, call)?;
+    assert_left(rt, alloc, &mut disk, written_before(call))
 }
 
 /// The disk that a crash by this choice leaves.

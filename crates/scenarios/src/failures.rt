@@ -1,3 +1,4 @@
+use crate::comparing::assert_same_at;
 use crate::files::{EMPTY_STAT, ONE_STAT, ONE_WRITE, SHARED_BLOCK, SHARED_STAT};
 use crate::running::{
     Ended, MAKE, RUN, assert_ended, assert_opens, assert_tells, look_over, run_over, sink_of,
@@ -19,26 +20,23 @@ fn unread_disk(alloc: Global, read: u64) -> Result<MemDisk, AllocError> {
 }
 
 /// Sees what each word is answered on such a disk.
-fn assert_unread(rt: &impl Abort, alloc: Global, read: u64) -> Result<(), Fail> {
-    let fault = Status::ReadFault;
-    assert_opens(rt, alloc, RUN, &mut unread_disk(alloc, read)?, fault)?;
-    assert_opens(rt, alloc, MAKE, &mut unread_disk(alloc, read)?, fault)?;
-    assert_tells(rt, alloc, "stat", &mut unread_disk(alloc, read)?, fault, "")?;
-    assert_tells(
-        rt,
-        alloc,
-        "create",
-        &mut unread_disk(alloc, read)?,
-        fault,
-        "",
-    )
+fn assert_no_read(rt: &impl Abort, alloc: Global, read: u64) -> Result<(), Fail> {
+    for word in [RUN, MAKE] {
+        let mut disk = unread_disk(alloc, read)?;
+        assert_opens(rt, alloc, word, &mut disk, Status::ReadFault)?;
+    }
+    for word in ["stat", "create"] {
+        let mut disk = unread_disk(alloc, read)?;
+        assert_tells(rt, alloc, word, &mut disk, Status::ReadFault, "")?;
+    }
+    Ok(())
 }
 
 #[test]
 fn a_disk_that_is_not_read_is_no_blank_one(rt: HostRuntime) -> Result<(), Fail> {
     // The 16 gates are read one after another, and none is open.
     for read in [1u64, 2, 15, 16] {
-        assert_unread(&rt, rt.alloc(), read)?;
+        assert_no_read(&rt, rt.alloc(), read)?;
     }
     let mut disk = unread_disk(rt.alloc(), 17)?;
     assert_opens(&rt, rt.alloc(), RUN, &mut disk, Status::NoPool)
@@ -53,25 +51,15 @@ fn failing_disk(alloc: Global, call: u64) -> Result<MemDisk, AllocError> {
 
 /// Sees what each word is answered on such a disk.
 fn assert_no_disk(rt: &impl Abort, alloc: Global, call: u64) -> Result<(), Fail> {
-    let fault = Status::WriteFault;
-    assert_opens(rt, alloc, RUN, &mut failing_disk(alloc, call)?, fault)?;
-    assert_opens(rt, alloc, MAKE, &mut failing_disk(alloc, call)?, fault)?;
-    assert_tells(
-        rt,
-        alloc,
-        "stat",
-        &mut failing_disk(alloc, call)?,
-        fault,
-        "",
-    )?;
-    assert_tells(
-        rt,
-        alloc,
-        "create",
-        &mut failing_disk(alloc, call)?,
-        fault,
-        "",
-    )
+    for word in [RUN, MAKE] {
+        let mut disk = failing_disk(alloc, call)?;
+        assert_opens(rt, alloc, word, &mut disk, Status::WriteFault)?;
+    }
+    for word in ["stat", "create"] {
+        let mut disk = failing_disk(alloc, call)?;
+        assert_tells(rt, alloc, word, &mut disk, Status::WriteFault, "")?;
+    }
+    Ok(())
 }
 
 #[test]
@@ -121,6 +109,19 @@ fn run_unwritten(
     run_over(alloc, &Sha256Key, &[MAKE], disk, &mut input, out)
 }
 
+/// Sees what is told where this call of the sink fails.
+fn assert_front(
+    rt: &impl Abort,
+    alloc: Global,
+    disk: &mut MemDisk,
+    call: u8,
+    status: Status,
+) -> Result<(), Fail> {
+    let ended = run_unwritten(alloc, disk, FILE, call as u64)?;
+    let front = front_before(alloc, call as usize)?;
+    assert_ended(rt, &ended, status, front.as_str())
+}
+
 /// Sees what is told and left where this call of the sink fails.
 fn assert_unwritten(
     rt: &impl Abort,
@@ -130,9 +131,7 @@ fn assert_unwritten(
     stat: &str,
 ) -> Result<(), Fail> {
     let mut disk = small_disk(alloc)?;
-    let ended = run_unwritten(alloc, &mut disk, FILE, call as u64)?;
-    let front = front_before(alloc, call as usize)?;
-    assert_ended(rt, &ended, status, front.as_str())?;
+    assert_front(rt, alloc, &mut disk, call, status)?;
     assert_tells(rt, alloc, "stat", &mut disk, Status::Done, stat)
 }
 
@@ -162,17 +161,18 @@ fn is_front(ended: &Ended, report: &str) -> bool {
 /// Sees what is told and left where this call of the sink fails in a `stat`.
 fn assert_untold(rt: &impl Abort, alloc: Global, call: u64) -> Result<(), Fail> {
     let mut disk = small_disk(alloc)?;
-    let ended = run_unwritten(alloc, &mut disk, SHARED_BLOCK.file, call)?;
-    assert!(rt;
-        is_front(&ended, SHARED_BLOCK.report),
-        "where call {call} fails"
-    );
-    assert_eq!(rt;
-        ended.status == Status::Done,
-        call == 15,
-        "where call {call} fails"
-    );
+    assert_some(rt, alloc, &mut disk, call)?;
     assert_tells(rt, alloc, "stat", &mut disk, Status::Done, SHARED_STAT)
+}
+
+/// Sees how far the report goes then.
+fn assert_some(rt: &impl Abort, alloc: Global, disk: &mut MemDisk, call: u64) -> Result<(), Fail> {
+    let ended = run_unwritten(alloc, disk, SHARED_BLOCK.file, call)?;
+    let fits = is_front(&ended, SHARED_BLOCK.report);
+    assert_same_at(rt, "a front at call", call, fits, true);
+    let is_done = ended.status == Status::Done;
+    assert_same_at(rt, "done at call", call, is_done, call == 15);
+    Ok(())
 }
 
 #[test]
@@ -184,15 +184,30 @@ fn a_failed_write_changes_nothing_of_the_pool(rt: HostRuntime) -> Result<(), Fai
     Ok(())
 }
 
+/// Sees what is told on a word where this call of the sink fails.
+fn assert_half_told(
+    rt: &impl Abort,
+    alloc: Global,
+    disk: &mut MemDisk,
+    word: &str,
+    call: u64,
+    front: &str,
+) -> Result<(), Fail> {
+    let ended = look_over(alloc, &[word], disk, sink_of(alloc, &[call])?)?;
+    assert_ended(rt, &ended, Status::SinkFault, front)
+}
+
+/// Creates a pool on a blank disk and looks at it, where the report isn't taken.
+fn create_untold(rt: &impl Abort, alloc: Global, disk: &mut MemDisk) -> Result<(), Fail> {
+    assert_half_told(rt, alloc, disk, "create", 1, "")?;
+    assert_half_told(rt, alloc, disk, "stat", 2, "stat 1\n")?;
+    assert_tells(rt, alloc, "stat", disk, Status::Done, EMPTY_STAT)
+}
+
 #[test]
 fn what_is_not_told_is_done(rt: HostRuntime) -> Result<(), Fail> {
-    let alloc = rt.alloc();
-    let mut disk = small_disk(alloc)?;
-    let created = look_over(alloc, &["create"], &mut disk, sink_of(alloc, &[1])?)?;
-    assert_ended(&rt, &created, Status::SinkFault, "")?;
-    let told = look_over(alloc, &["stat"], &mut disk, sink_of(alloc, &[2])?)?;
-    assert_ended(&rt, &told, Status::SinkFault, "stat 1\n")?;
-    assert_tells(&rt, alloc, "stat", &mut disk, Status::Done, EMPTY_STAT)
+    let mut disk = small_disk(rt.alloc())?;
+    create_untold(&rt, rt.alloc(), &mut disk)
 }
 
 /// Sees that nothing is done where this call of the source fails.
@@ -201,20 +216,19 @@ fn assert_no_file(rt: &impl Abort, alloc: Global, call: u64) -> Result<(), Fail>
     let mut input = source_of(alloc, ONE_WRITE.file, 7, &[call])?;
     let out = sink_of(alloc, &[1])?;
     let mut ended = run_over(alloc, &Sha256Key, &[MAKE], &mut disk, &mut input, out)?;
-    assert_eq!(rt;
-        ended.status,
-        Status::SourceFault,
-        "where call {call} fails"
-    );
-    assert!(rt; ended.did_nothing(), "where call {call} fails");
-    assert_eq!(rt; disk.calls_made(), 0, "where call {call} fails");
-    // The sink's first call is still to come.
-    assert_eq!(rt;
-        ended.out.write(b"x"),
-        Err(Failed),
-        "where call {call} fails"
-    );
+    assert_same_at(rt, "the disk's calls at", call, disk.calls_made(), 0);
+    assert_unread(rt, &mut ended, call);
     Ok(())
+}
+
+/// Sees that a session did nothing, since this call of the source failed.
+fn assert_unread(rt: &impl Abort, ended: &mut Ended, call: u64) {
+    let fault = Status::SourceFault;
+    assert_same_at(rt, "the status at", call, ended.status, fault);
+    assert_same_at(rt, "nothing done at", call, ended.did_nothing(), true);
+    // The sink's first call is still to come.
+    let first = ended.out.write(b"x");
+    assert_same_at(rt, "the sink's first call at", call, first, Err(Failed));
 }
 
 #[test]

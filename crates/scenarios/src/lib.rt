@@ -5,12 +5,15 @@
 //! file. `reports` has the text of whole reports and the notes of a session, `opening` has pools that are made, found,
 //! or not there, `refusals` has files and words that a session refuses, `failures` has reads and streams that fail at
 //! some call, `crashes` has disks that fail or crash at each call, and `reference` runs the plain program of
-//! `plain_run` beside the session and compares the two.
+//! `plain_run` beside the session and compares the two. `rows` has command files of all commands, also of those that the
+//! session doesn't read yet, and what the plain program reports of them (`lines`, `replay`, `telling`).
 //!
 //! The expected texts are written out by hand from the rules; none was taken from a run. `files` has the
 //! command files that several of them use, and `running` the one way in which all of them run a session.
 #![tactic(auto)]
 
+#[cfg(test)]
+mod comparing;
 #[cfg(test)]
 mod crashes;
 #[cfg(test)]
@@ -18,12 +21,20 @@ mod failures;
 #[cfg(test)]
 mod files;
 #[cfg(test)]
+mod lines;
+#[cfg(test)]
 mod opening;
 #[cfg(test)]
 mod reference;
 #[cfg(test)]
 mod refusals;
 #[cfg(test)]
+mod replay;
+#[cfg(test)]
 mod reports;
 #[cfg(test)]
+mod rows;
+#[cfg(test)]
 mod running;
+#[cfg(test)]
+mod telling;

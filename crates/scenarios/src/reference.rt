@@ -1,3 +1,4 @@
+use crate::comparing::assert_same;
 use crate::files::{SCENARIOS, file_of_lengths, file_of_twenty_groups};
 use crate::running::{Ended, MAKE, run_file, sink_of, small_disk, source_of};
 use cmd_file::read_file;
@@ -57,7 +58,8 @@ fn plain_group(
     assert!(rt; standing.pool.group < 1_000);
     assert!(rt; writes_contents(group.commands.as_slice()));
     let course = standing.course(alloc, &Sha256Key, group, note)?;
-    assert!(rt; is_as_noted(&course, note));
+    let is_same = is_as_noted(&course, note);
+    assert_same(rt, "whether the note says so", is_same, true);
     let opening = standing.opening(alloc, group.moment)?;
     Ok(standing.after_course(alloc, &opening, course, Vec::new(alloc))?)
 }
@@ -101,7 +103,7 @@ fn stat_text(rt: &impl Abort, alloc: Global, standing: &PlainStanding) -> Result
 fn run_made(rt: &impl Abort, alloc: Global, text: &str) -> Result<Ended, Fail> {
     let mut disk = small_disk(alloc)?;
     let ended = run_file(alloc, &Sha256Key, MAKE, &mut disk, text)?;
-    assert_eq!(rt; ended.status, Status::Done, "{text}");
+    assert_same(rt, text, ended.status, Status::Done);
     Ok(ended)
 }
 
@@ -111,14 +113,35 @@ fn items_of(alloc: Global, text: &str) -> Result<CommandFile, Fail> {
     Ok(read_file(alloc, &mut input)?)
 }
 
+// What stands behind the groups of a text, as the plain program runs them.
+fn plain_text(
+    rt: &impl Abort,
+    alloc: Global,
+    text: &str,
+    notes: &[GroupNote],
+) -> Result<PlainStanding, Fail> {
+    let file = items_of(alloc, text)?;
+    plain_groups(rt, alloc, file.items.as_slice(), notes)
+}
+
+// The text of a `stat` behind the groups of a text.
+fn plain_stat(
+    rt: &impl Abort,
+    alloc: Global,
+    text: &str,
+    notes: &[GroupNote],
+) -> Result<MemSink, Fail> {
+    let standing = plain_text(rt, alloc, text, notes)?;
+    stat_text(rt, alloc, &standing)
+}
+
 // Runs a file that ends with `stat` in a session, and its groups in the plain program beside it.
 fn compare(rt: &impl Abort, alloc: Global, text: &str) -> Result<(), Fail> {
     let ended = run_made(rt, alloc, text)?;
-    let file = items_of(alloc, text)?;
     let notes = ended.session.groups.as_slice();
-    let standing = plain_groups(rt, alloc, file.items.as_slice(), notes)?;
-    let stat = stat_text(rt, alloc, &standing)?;
-    assert!(rt; ended.out.bytes().ends_with(stat.bytes()), "{text}");
+    let stat = plain_stat(rt, alloc, text, notes)?;
+    let is_end = ended.out.bytes().ends_with(stat.bytes());
+    assert_same(rt, text, is_end, true);
     Ok(())
 }
 

@@ -1,3 +1,4 @@
+use crate::comparing::assert_same;
 use crate::files::{ONE_WRITE, file_of_lengths};
 use crate::running::{Ended, MAKE, look_over, run_over, sink_of, small_disk, source_of};
 use ddt_entry::Sha256Key;
@@ -18,10 +19,11 @@ const BAD_FILE: Status = Status::BadFile {
 /// Sees that a session ended so before it called the disk or the sink, of which the first call fails.
 fn assert_refused(rt: &impl Abort, ended: Ended, disk: &MemDisk, status: Status) {
     let mut ended = ended;
-    assert_eq!(rt; ended.status, status);
-    assert!(rt; ended.did_nothing());
-    assert_eq!(rt; disk.calls_made(), 0);
-    assert_eq!(rt; ended.out.write(b"x"), Err(Failed));
+    assert_same(rt, "the status", ended.status, status);
+    assert_same(rt, "nothing done", ended.did_nothing(), true);
+    assert_same(rt, "the disk's calls", disk.calls_made(), 0);
+    let first = ended.out.write(b"x");
+    assert_same(rt, "the sink's first call", first, Err(Failed));
 }
 
 /// Sees that a file is refused before anything is done.
@@ -65,7 +67,7 @@ fn assert_too_long(
     size: usize,
 ) -> Result<(), Fail> {
     let text = file_of_lengths(alloc, moment, lengths)?;
-    assert_eq!(rt; text.len(), size);
+    assert_same(rt, "the file's length", text.len(), size);
     assert_bad(rt, alloc, text.as_str())
 }
 
@@ -87,9 +89,11 @@ fn a_file_past_a_limit_does_nothing_and_writes_nothing(rt: HostRuntime) -> Resul
 /// Sees that a source was never called, of which the first call fails.
 fn assert_unread(rt: &impl Abort, input: &mut MemSource) {
     let mut buffer = [0u8; 5];
-    assert_eq!(rt; input.read(&mut buffer), Err(Failed));
-    assert_eq!(rt; input.read(&mut buffer), Ok(5));
-    assert_eq!(rt; buffer.as_slice(), b"group".as_slice());
+    let first = input.read(&mut buffer);
+    assert_same(rt, "the source's first call", first, Err(Failed));
+    let second = input.read(&mut buffer);
+    assert_same(rt, "the source's second call", second, Ok(5));
+    assert_same(rt, "the file's front", buffer, *b"group");
 }
 
 /// Sees that `run` is not for these words.

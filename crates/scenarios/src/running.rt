@@ -1,5 +1,6 @@
 ghost use Rattle.std.specs.Prelude.{◌≡◌, ◌<◌, []};
 
+use crate::comparing::assert_same;
 use ddt_entry::{KeyOf, Sha256Key};
 use disk_model::MemDisk;
 use io_model::{MemSink, MemSource};
@@ -137,7 +138,8 @@ pub(crate) fn assert_ended(
     report: &str,
 ) -> Result<(), Fail> {
     let told = str::from_utf8(ended.out.bytes())?;
-    assert_eq!(rt; (ended.status, told), (status, report));
+    assert_same(rt, "the status", ended.status, status);
+    assert_same(rt, "the report", told, report);
     Ok(())
 }
 
