@@ -12,6 +12,7 @@ use Rattle.cmd_file.specs.Reading.{IsReadOut}
 -- of a file that was read out, or a fault of reading, which the source counted
 abbrev pub Reads : (left rest : Option (List ℕ)) → (before now : ℕ) → Result CommandFile FileFault → Type 0
 Reads left rest before now (Ok file) = (bytes : List ℕ) × HasRead left rest bytes × (file_of bytes ≡ Ok (map part_of file.items.items))
-Reads left rest before now (Err (faults.Bad line kind)) = (bytes : List ℕ) × IsReadOut left rest bytes × (file_of bytes ≡ Err (record { line = line; kind = kind }))
+Reads left rest before now (Err (faults.Bad line kind)) = (bytes : List ℕ) × IsReadOut left rest bytes
+    × (file_of bytes ≡ Err (record { line = line; kind = kind }))
 Reads left rest before now (Err faults.SourceFault) = Rose before now
 Reads left rest before now (Err faults.Memory) = Unit {0}

@@ -36,7 +36,8 @@ taken words create = refl
 taken words stat = refl
 
 -- the one word that it finds
-found_word : (words : List (List ℕ)) → IsAsked words → (word : List ℕ) × (words ≡ word ∷ []) × (first_of (codes "word") (matches_of command_line words) ≡ Some word)
+found_word : (words : List (List ℕ)) → IsAsked words
+    → (word : List ℕ) × (words ≡ word ∷ []) × (first_of (codes "word") (matches_of command_line words) ≡ Some word)
 unfolding clap_on_literals
 found_word words run = (codes "run", refl, refl)
 found_word words make = (codes "make", refl, refl)
@@ -45,17 +46,19 @@ found_word words stat = (codes "stat", refl, refl)
 
 -- a word that asks for a session is one of the four
 is_asked : (word : List ℕ) (asked : Asked) → asked_by word ≡ Some asked → IsAsked (word ∷ [])
-is_asked word asked told = among (bytes_eq word (codes "run")) refl (bytes_eq word (codes "make")) refl (bytes_eq word (codes "create")) refl (bytes_eq word (codes "stat")) refl where
-  same : (text : List ℕ) → bytes_eq word text ≡ true → IsAsked (text ∷ []) → IsAsked (word ∷ [])
-  same text equal asks = subst (λ t. IsAsked (t ∷ [])) (sym ((bytes_eq-Decides word text).0 equal)) asks
+is_asked word asked told = among (bytes_eq word (codes "run")) refl (bytes_eq word (codes "make")) refl
+    (bytes_eq word (codes "create")) refl (bytes_eq word (codes "stat")) refl where
+      same : (text : List ℕ) → bytes_eq word text ≡ true → IsAsked (text ∷ []) → IsAsked (word ∷ [])
+      same text equal asks = subst (λ t. IsAsked (t ∷ [])) (sym ((bytes_eq-Decides word text).0 equal)) asks
 
-  among : (a : Bool) → bytes_eq word (codes "run") ≡ a → (b : Bool) → bytes_eq word (codes "make") ≡ b
-      → (d : Bool) → bytes_eq word (codes "create") ≡ d → (e : Bool) → bytes_eq word (codes "stat") ≡ e → IsAsked (word ∷ [])
-  among true is b _ d _ e _ = same (codes "run") is run
-  among false _ true is d _ e _ = same (codes "make") is make
-  among false _ false _ true is e _ = same (codes "create") is create
-  among false _ false _ false _ true is = same (codes "stat") is stat
-  among false isnt_run false isnt_make false isnt_create false isnt_stat = absurd (cc (told, isnt_run, isnt_make, isnt_create, isnt_stat))
+      among : (a : Bool) → bytes_eq word (codes "run") ≡ a → (b : Bool) → bytes_eq word (codes "make") ≡ b
+          → (d : Bool) → bytes_eq word (codes "create") ≡ d → (e : Bool) → bytes_eq word (codes "stat") ≡ e → IsAsked (word ∷ [])
+      among true is b _ d _ e _ = same (codes "run") is run
+      among false _ true is d _ e _ = same (codes "make") is make
+      among false _ false _ true is e _ = same (codes "create") is create
+      among false _ false _ false _ true is = same (codes "stat") is stat
+      among false isnt_run false isnt_make false isnt_create false isnt_stat = absurd
+          (cc (told, isnt_run, isnt_make, isnt_create, isnt_stat))
 
 -- so are the words
 asks_of : (words : List (List ℕ)) (asked : Asked) → asked_for words ≡ Some asked → IsAsked words
@@ -71,18 +74,21 @@ none_asked words none = go (asked_for words) refl where
   go (Some asked) is = absurd (none asked is)
 
 -- words that are refused for another cause than want of memory ask for none
-pub refused_so : (words : List (List ℕ)) (kind : ErrorKind) → (takes command_line words ≡ true → kind ≡ OutOfMemory) → (kind ≡ OutOfMemory → ⊥) → asked_for words ≡ None
+pub refused_so : (words : List (List ℕ)) (kind : ErrorKind) → (takes command_line words ≡ true → kind ≡ OutOfMemory)
+    → (kind ≡ OutOfMemory → ⊥) → asked_for words ≡ None
 refused_so words kind passes other = none_asked words (λ asked told. other (passes (taken words (asks_of words asked told))))
 
 -- where the words ask for a session, the value that was found is their word
-found_so : (words : List (List ℕ)) (m : ArgMatches) (found : Option (List ℕ)) → HasMatchesOf command_line words m → found ≡ first_value (found_of m) (codes "word")
+found_so : (words : List (List ℕ)) (m : ArgMatches) (found : Option (List ℕ)) → HasMatchesOf command_line words m
+    → found ≡ first_value (found_of m) (codes "word")
     → (asked : Asked) → asked_for words ≡ Some asked → (word : List ℕ) × (asked_for words ≡ asked_by word) × (found ≡ Some word)
 found_so words m found has is asked told =
     let there = found_word words (asks_of words asked told) in
     (there.0, ap asked_for there.1, is ∙ first_value-rows (found_of m) (codes "word") ∙ ap (first_of (codes "word")) (has simple).0 ∙ there.2)
 
 -- so a value that asks for none is of words that ask for none
-pub unasked_so : (words : List (List ℕ)) (m : ArgMatches) (found : Option (List ℕ)) → HasMatchesOf command_line words m → found ≡ first_value (found_of m) (codes "word")
+pub unasked_so : (words : List (List ℕ)) (m : ArgMatches) (found : Option (List ℕ)) → HasMatchesOf command_line words m
+    → found ≡ first_value (found_of m) (codes "word")
     → ((text : List ℕ) → found ≡ Some text → asked_by text ≡ None) → asked_for words ≡ None
 unasked_so words m found has is none = none_asked words go where
   go : (asked : Asked) → asked_for words ≡ Some asked → ⊥

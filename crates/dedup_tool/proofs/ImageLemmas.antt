@@ -11,7 +11,8 @@ use Rattle.std.proofs.lemmas.Fmt.{parse-decimal, decimal_is_IsNumeral}
 use Rattle.dedup_tool.specs.Image.{IsNumberOf, IsSizedPath}
 
 -- digits of a number are read as that number
-pub is_read : {E : Type 0} (digits : List ℕ) (least most n : ℕ) (r : Result ℕ E) → most < 2 ^ 64 → IsNumberOf digits least most n → ParsesUnsigned 64 10 digits r → r ≡ Ok n
+pub is_read : {E : Type 0} (digits : List ℕ) (least most n : ℕ) (r : Result ℕ E) → most < 2 ^ 64 → IsNumberOf digits least most n
+    → ParsesUnsigned 64 10 digits r → r ≡ Ok n
 is_read digits least most n r fits number read =
     let small : n < 2 ^ 64 = omega (arith, number.no_more) in
     parse-decimal 64 n digits r small small number.spelled read
@@ -37,10 +38,12 @@ first_colon text path n sized =
 pub has_colon : (text path : List ℕ) (n : ℕ) → IsSizedPath text n path → position_or_len (λ b. b == 58) text ≡ length text → ⊥
 has_colon text path n sized none =
     let at = first_colon text path n sized in
-    let long : length text ≡ length (decimal n) + length (58 ∷ path) = ap (λ (t : List ℕ). length t) sized.spelled ∙ length-append (decimal n) (58 ∷ path) in
+    let long : length text ≡ length (decimal n) + length (58 ∷ path) = ap (λ (t : List ℕ). length t) sized.spelled
+    ∙ length-append (decimal n) (58 ∷ path) in
     absurd (omega (arith, at, none, long))
 
 -- and what stands before it is the number
 pub number_before : (text path : List ℕ) (n : ℕ) → IsSizedPath text n path → before_first (λ b. b == 58) text ≡ decimal n
 number_before text path n sized =
-    ap (λ k. take k text) (first_colon text path n sized) ∙ ap (take (length (decimal n))) sized.spelled ∙ take-append_seam (decimal n) (58 ∷ path)
+    ap (λ k. take k text) (first_colon text path n sized) ∙ ap (take (length (decimal n))) sized.spelled
+    ∙ take-append_seam (decimal n) (58 ∷ path)

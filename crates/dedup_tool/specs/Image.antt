@@ -38,4 +38,5 @@ abbrev pub Names : (image : List ℕ) → Option Image → Type 0
 Names image (Some (Memory sectors)) = IsMemory image sectors
 Names image (Some (New sectors path)) = IsNew image sectors path.now
 Names image (Some (Path path)) = IsPath image × (path.now ≡ image)
-Names image None = ((sectors : ℕ) → ¬ IsMemory image sectors) × ((sectors : ℕ) (path : List ℕ) → ¬ IsNew image sectors path) × (IsPath image → ⊥)
+Names image None = ((sectors : ℕ) → ¬ IsMemory image sectors) × ((sectors : ℕ) (path : List ℕ) → ¬ IsNew image sectors path)
+    × (IsPath image → ⊥)

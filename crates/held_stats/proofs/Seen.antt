@@ -15,12 +15,14 @@ use Rattle.table_state.specs.declared.slot_record.SlotRecord.{SlotRecord}
 use Rattle.held_stats.specs.Slots.{reference_in}
 use Rattle.table_state.proofs.SlotCounts.{few_slots, short_keys}
 
-references_of-slots : (image : Image) (table : TableState) (slots : List SlotRecord) → map reference_of (map (pointer_of image table) slots) ≡ map (reference_in table) slots
+references_of-slots : (image : Image) (table : TableState) (slots : List SlotRecord)
+    → map reference_of (map (pointer_of image table) slots) ≡ map (reference_in table) slots
 references_of-slots image table [] = refl
 references_of-slots image table (slot ∷ slots) = ap (λ rest. reference_in table slot ∷ rest) (references_of-slots image table slots)
 
 -- of a pool that an image stands for
-pub references_of-held : (image : Image) (held : Held) (pool : Pool) (table : TableState) → IsHeld image held pool table → map reference_of pool.pointers ≡ map (reference_in held.table) held.slots
+pub references_of-held : (image : Image) (held : Held) (pool : Pool) (table : TableState) → IsHeld image held pool table
+    → map reference_of pool.pointers ≡ map (reference_in held.table) held.slots
 references_of-held image held pool table is =
     ap (λ (p : Pool). map reference_of p.pointers) is.stands.pool_is
     ∙ ap (λ (t : TableState). map reference_of (map (pointer_of image t) is.stands.flat.slots)) (sym is.stands.table_is ∙ sym is.table_is)
@@ -34,7 +36,8 @@ length-keys key_of (x ∷ xs) = omega (arith, length-keys key_of xs)
 -- what holds of the images holds of each element's image
 All-unmap : {X Y : Type 0} (P : Y → Type 0) (f : X → Y) (xs : List X) → All P (map f xs) → All (λ x. P (f x)) xs
 All-unmap {X} P f [] all = All-nil (λ (x : X). P (f x))
-All-unmap {X} P f (x ∷ xs) all = All-cons (λ (x : X). P (f x)) x xs (All-head P (f x) (map f xs) all) (All-unmap P f xs (All-tail P (f x) (map f xs) all))
+All-unmap {X} P f (x ∷ xs) all = All-cons (λ (x : X). P (f x)) x xs (All-head P (f x) (map f xs) all)
+    (All-unmap P f xs (All-tail P (f x) (map f xs) all))
 
 -- few slots are few pointers with short keys
 pub AreSmall-slots : (held : Held) (references : List Reference) → IsSound held
@@ -42,9 +45,11 @@ pub AreSmall-slots : (held : Held) (references : List Reference) → IsSound hel
     references
 AreSmall-slots held references sound keys =
     let short : All (λ (key : Key). key.len ≤ 4096) (map (λ (slot : SlotRecord). slot.pointer.key) held.slots) =
-    All-map (λ (key : Key). key.len ≤ 4096) (λ (slot : SlotRecord). slot.pointer.key) held.slots (short_keys held.sectors held.group held.slots sound.slots_within)
+    All-map (λ (key : Key). key.len ≤ 4096) (λ (slot : SlotRecord). slot.pointer.key) held.slots
+    (short_keys held.sectors held.group held.slots sound.slots_within)
     in
-    let same : length (map (λ (reference : Reference). reference.key) references) ≡ length (map (λ (slot : SlotRecord). slot.pointer.key) held.slots) = ap length keys in
+    let same : length (map (λ (reference : Reference). reference.key) references) ≡ length
+    (map (λ (slot : SlotRecord). slot.pointer.key) held.slots) = ap length keys in
     record {
       few =
           omega (
@@ -55,9 +60,11 @@ AreSmall-slots held references sound keys =
             length-keys
                 (λ (slot : SlotRecord). slot.pointer.key) held.slots,
           );
-      short = All-unmap (λ (key : Key). key.len ≤ 4096) (λ (reference : Reference). reference.key) references (subst (All (λ (key : Key). key.len ≤ 4096)) (sym keys) short);
+      short = All-unmap (λ (key : Key). key.len ≤ 4096) (λ (reference : Reference). reference.key) references
+          (subst (All (λ (key : Key). key.len ≤ 4096)) (sym keys) short);
     }
 
 -- the table of a pool that an image stands for is sorted
 pub sorted-held : (image : Image) (held : Held) (pool : Pool) (table : TableState) → IsHeld image held pool table → IsTable held.table
-sorted-held image held pool table is = subst IsTable (sym (is.table_is ∙ is.stands.table_is)) (is_table_in is.stands.seal is.stands.flat is.stands.whole)
+sorted-held image held pool table is = subst IsTable (sym (is.table_is ∙ is.stands.table_is))
+    (is_table_in is.stands.seal is.stands.flat is.stands.whole)

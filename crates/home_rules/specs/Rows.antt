@@ -27,4 +27,5 @@ row_of row = record { answer = row.answer; spot = spot_of row.spot }
 -- the values of the two tests of a home's block: whether it has the content's key, and whether it is the content
 abbrev pub IsCompared : (List ℕ → Key) → Option Known → (content : List ℕ) → (has_key same : Bool) → Type 0
 IsCompared key_of None content has_key same = ⊤
-IsCompared key_of (Some known) content has_key same = (key_eq (key_of known.block) (key_of content) ≡ has_key) × (bytes_eq known.block content ≡ same)
+IsCompared key_of (Some known) content has_key same = (key_eq (key_of known.block) (key_of content) ≡ has_key)
+    × (bytes_eq known.block content ≡ same)

@@ -205,7 +205,8 @@ module _ (key_of : List ℕ → Key) (image : Image) (held : Held) (s : Standing
   goes = going_all held.sectors opening s.pool (block_places live.contents ∷ replicate 15 []) turns refl well matched fresh_by_key
 
   after_well : IsWellFormed held.sectors after
-  after_well = kept_formed held.sectors (IsUnnamedByKey held.sectors s.pool (found s.table)) opening s.pool (block_places live.contents ∷ replicate 15 []) turns well goes.kept
+  after_well = kept_formed held.sectors (IsUnnamedByKey held.sectors s.pool (found s.table)) opening s.pool
+      (block_places live.contents ∷ replicate 15 []) turns well goes.kept
 
   after_by_key : MatchesByKey held.sectors after (λ key. home_after opening course (found s.table key) key)
   after_by_key =

@@ -19,7 +19,7 @@ ghost use Rattle.live_core.specs.Runs.{core_of, history_of};
 ghost use Rattle.live_core.specs.Views.{keeps, reply};
 
 /// At most one lane leads a key.
-pub fn one_lane_leads()
+pub(crate) fn one_lane_leads()
     // A lane leads until it loads the key or gives it up itself, whatever steps the others take.
     ensures stays { (terms : Terms) (before more : History Step Answer) (lane key : ℕ) → (core_at terms before).states key ≡ Led lane
         → list_any (λ (e : Event Step Answer). loads_key lane key e.step || gives_up lane key e.step) more ≡ false
@@ -32,7 +32,7 @@ pub fn one_lane_leads()
 {}
 
 /// A key is loaded once.
-pub fn keys_are_loaded_once()
+pub(crate) fn keys_are_loaded_once()
     // Once it is known it is known for ever: neither idle nor led.
     ensures known { (terms : Terms) (before more : History Step Answer) (key : ℕ) → is_known ((core_at terms before).states key) ≡ true
         → is_known ((core_at terms (before ++ more)).states key) ≡ true }
@@ -49,7 +49,7 @@ pub fn keys_are_loaded_once()
 
 /// The count of a key is what was loaded, with its News and Hits and without its Counteds. So there are never more of these
 /// than of the others, and the count never falls below 0.
-pub fn counts_add_up()
+pub(crate) fn counts_add_up()
     ensures { (terms : Terms) (history : History Step Answer) (key : ℕ) → AreAnswered terms (first_core terms) history
         → count_in ((core_at terms history).states key) + losses key history ≡ loaded key history + gains key history }
 {}
@@ -57,7 +57,7 @@ pub fn counts_add_up()
 /// Where homes are told, each home that is loaded is the key's, and the first number is no smaller than that of the keys whose
 /// homes have a count above 0: the number of homes is the first one, without the loaded keys whose homes had a count above 0, and
 /// with the known keys whose homes have one now.
-pub fn homes_add_up()
+pub(crate) fn homes_add_up()
     ensures { (base : Base) (homes : List (Option Home)) (history : History Step Answer) → base.told.homes ≡ Some homes
         → how_many (is_told_live homes) base.terms.keys ≤ base.terms.homes
         → AllByRecursion (λ (e : Event Step Answer). IsLoad base e.step) history
@@ -68,7 +68,7 @@ pub fn homes_add_up()
 
 /// The history is all that counts: it has the steps that were kept, each with its answer, and those that weren't kept have
 /// changed nothing.
-pub fn history_is_what_was_kept()
+pub(crate) fn history_is_what_was_kept()
     // The state after the steps is that after their history.
     ensures state { (terms : Terms) (steps : List Step) → core_at terms (history_of terms steps) ≡ core_of terms steps }
     // Each event has the answer that its step has after the events before it.
@@ -83,7 +83,7 @@ pub fn history_is_what_was_kept()
 {}
 
 /// What a lock tells of a core's history is what these laws ask for.
-pub fn legal_histories_meet_the_laws()
+pub(crate) fn legal_histories_meet_the_laws()
     ensures answered { (base : Base) (history : History Step Answer) → IsLegal Fits reply base [] history
         → AreAnswered base.terms (first_core base.terms) history }
     ensures loads { (base : Base) (history : History Step Answer) → IsLegal Fits reply base [] history

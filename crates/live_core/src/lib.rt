@@ -25,9 +25,4 @@ mod table;
 mod worked;
 
 pub use group_core::{Core, TellsBase};
-pub use laws::{
-    counts_add_up, history_is_what_was_kept, homes_add_up, keys_are_loaded_once,
-    legal_histories_meet_the_laws, one_lane_leads,
-};
 pub use steps::{Answer, Body, Event, KeyState, LiveHome, Step, Terms, Verdict};
-pub use worked::worked_steps;

@@ -13,10 +13,14 @@ use Rattle.plain_run.specs.Placed.{Placed, placed_of}
 use Rattle.plain_run.specs.Openings.{bytes_at}
 
 -- the bytes at a place are those of a pointer there, or else as they were
-pub bytes_at-after : (ps : List Pointer) (blocks : List Placed) (place : ℕ) → bytes_at (map placed_of ps ++ blocks) place ≡ block_or (bytes_at blocks place) (find (λ p. p.place == place) ps)
+pub bytes_at-after : (ps : List Pointer) (blocks : List Placed) (place : ℕ)
+    → bytes_at (map placed_of ps ++ blocks) place ≡ block_or (bytes_at blocks place) (find (λ p. p.place == place) ps)
 bytes_at-after [] blocks place = refl
 bytes_at-after (p ∷ ps) blocks place =
-    elim (p.place == place) as (λ b. option_map_or (λ (block : Placed). block.content) (cond b (Some (placed_of p)) (find (λ block. block.place == place) (map placed_of ps ++ blocks))) [] ≡ block_or (bytes_at blocks place) (cond b (Some p) (find (λ q. q.place == place) ps)))
+    elim (p.place == place) as
+    (λ b. option_map_or (λ (block : Placed). block.content)
+    (cond b (Some (placed_of p)) (find (λ block. block.place == place) (map placed_of ps ++ blocks))) [] ≡ block_or (bytes_at blocks place)
+    (cond b (Some p) (find (λ q. q.place == place) ps)))
     [ true ↦ refl | false ↦ bytes_at-after ps blocks place ]
 
 -- standings agree where their pools and tables are the same, the bytes at each place, their sectors and their pages

@@ -51,7 +51,8 @@ module _ (seal : Seal) (flat : Flat) (grounds : Grounds seal flat) where
   -- the sectors are told where all tests passed
   passed_of : (used : List Bool) → judged seal flat table ≡ Some used → Passed seal flat grounds used
   passed_of used is =
-      let outer = chosen (counts_hold seal (counted_homes table) spots (length flat.named)) (sectors_taken seal.sectors flat.named spots table) used is in
+      let outer = chosen (counts_hold seal (counted_homes table) spots (length flat.named))
+      (sectors_taken seal.sectors flat.named spots table) used is in
       let counts = and_parts sums (list_all (is_counted spots) (counted_homes table)) outer.0 in
       let pages = and_parts _ (seal.pages == length flat.named) counts.0 in
       let numbers = and_parts (seal.homes == length (counted_homes table)) _ pages.0 in
@@ -73,7 +74,8 @@ module _ (seal : Seal) (flat : Flat) (grounds : Grounds seal flat) where
       ap (λ b. if b then sectors_taken seal.sectors flat.named spots table else None)
       (and_both sums _
       (and_both _ (seal.pages == length flat.named)
-      (and_both _ (seal.counts == sum_by (λ entry. entry.home.count) (counted_homes table)) (eq-eqb seal.homes _ passed.homes) (eq-eqb seal.counts _ passed.references))
+      (and_both _ (seal.counts == sum_by (λ entry. entry.home.count) (counted_homes table)) (eq-eqb seal.homes _ passed.homes)
+      (eq-eqb seal.counts _ passed.references))
       (eq-eqb seal.pages _ passed.pages))
       passed.are_counted)
       ∙ ap (λ b. if b then then_taken else None) (and_both clear owned passed.are_clear passed.owned)
@@ -81,12 +83,16 @@ module _ (seal : Seal) (flat : Flat) (grounds : Grounds seal flat) where
 
   -- the answer, over any table that is the image's
   pub whole_where_told : (found : Option (List Bool)) (t : TableState) → t ≡ table → found ≡ judged seal flat t
-      → IfSome found (λ used. (image : Image) → IsWhole image seal flat × (used ≡ used_sectors seal.sectors flat.named (pool_in image seal flat) table))
+      → IfSome found (λ used. (image : Image)
+      → IsWhole image seal flat × (used ≡ used_sectors seal.sectors flat.named (pool_in image seal flat) table))
   whole_where_told None t same is = tt
-  whole_where_told (Some used) t same is = λ image. whole_if seal flat grounds image used (passed_of used (sym (is ∙ ap (judged seal flat) same)))
+  whole_where_told (Some used) t same is = λ image. whole_if seal flat grounds image used
+      (passed_of used (sym (is ∙ ap (judged seal flat) same)))
 
-  pub broken_where_none : (found : Option (List Bool)) (t : TableState) → t ≡ table → found ≡ judged seal flat t → IfNone found ((image : Image) → IsWhole image seal flat → ⊥)
-  broken_where_none None t same is = λ image whole. never _ (is ∙ ap (judged seal flat) same ∙ told_of _ (passed_if seal flat grounds image whole))
+  pub broken_where_none : (found : Option (List Bool)) (t : TableState) → t ≡ table → found ≡ judged seal flat t
+      → IfNone found ((image : Image) → IsWhole image seal flat → ⊥)
+  broken_where_none None t same is = λ image whole. never _
+      (is ∙ ap (judged seal flat) same ∙ told_of _ (passed_if seal flat grounds image whole))
     where
       never : (used : List Bool) → None ≡ Some used → ⊥
       never used none = cc
@@ -98,14 +104,21 @@ ok_weaker P Q weaker (Ok x) holds = weaker x holds
 ok_weaker P Q weaker (Err e) holds = tt
 
 -- a result that tells sectors tells of a whole image
-pub whole_result : {E : Type 0} (seal : Seal) (flat : Flat) (grounds : Grounds seal flat) (t : TableState) → t ≡ table_in seal flat → (result : Result (Option (List Bool)) E) → IfOk result (λ found. found ≡ judged seal flat t)
-    → IfOk result (λ found. IfSome found (λ used. (image : Image) → IsWhole image seal flat × (used ≡ used_sectors seal.sectors flat.named (pool_in image seal flat) (table_in seal flat))))
+pub whole_result : {E : Type 0} (seal : Seal) (flat : Flat) (grounds : Grounds seal flat) (t : TableState) → t ≡ table_in seal flat
+    → (result : Result (Option (List Bool)) E) → IfOk result (λ found. found ≡ judged seal flat t)
+    → IfOk result (λ found. IfSome found
+    (λ used. (image : Image)
+    → IsWhole image seal flat × (used ≡ used_sectors seal.sectors flat.named (pool_in image seal flat) (table_in seal flat))))
 whole_result seal flat grounds t same result told =
-    ok_weaker (λ found. found ≡ judged seal flat t) (λ found. IfSome found (λ used. (image : Image) → IsWhole image seal flat × (used ≡ used_sectors seal.sectors flat.named (pool_in image seal flat) (table_in seal flat))))
+    ok_weaker (λ found. found ≡ judged seal flat t)
+    (λ found. IfSome found
+    (λ used. (image : Image)
+    → IsWhole image seal flat × (used ≡ used_sectors seal.sectors flat.named (pool_in image seal flat) (table_in seal flat))))
     (λ found is. whole_where_told seal flat grounds found t same is) result told
 
 -- a result that tells nothing tells of a broken one
-pub broken_result : {E : Type 0} (seal : Seal) (flat : Flat) (grounds : Grounds seal flat) (t : TableState) → t ≡ table_in seal flat → (result : Result (Option (List Bool)) E) → IfOk result (λ found. found ≡ judged seal flat t)
+pub broken_result : {E : Type 0} (seal : Seal) (flat : Flat) (grounds : Grounds seal flat) (t : TableState) → t ≡ table_in seal flat
+    → (result : Result (Option (List Bool)) E) → IfOk result (λ found. found ≡ judged seal flat t)
     → IfOk result (λ found. IfNone found ((image : Image) → IsWhole image seal flat → ⊥))
 broken_result seal flat grounds t same result told =
     ok_weaker (λ found. found ≡ judged seal flat t) (λ found. IfNone found ((image : Image) → IsWhole image seal flat → ⊥))
@@ -118,7 +131,8 @@ pub record Made (seal : Seal) (flat : Flat) (t : TableState) (entries homes : Li
   pub spots_are : spots ≡ map (spot_among entries) flat.slots
   pub pages_are : pages ≡ length flat.named
 
-module _ (seal : Seal) (flat : Flat) (t : TableState) (sorted : IsTable t) (entries homes : List Entry) (spots : List Spot) (pages : ℕ) (made : Made seal flat t entries homes spots pages) where
+module _ (seal : Seal) (flat : Flat) (t : TableState) (sorted : IsTable t) (entries homes : List Entry) (spots : List Spot) (pages : ℕ)
+    (made : Made seal flat t entries homes spots pages) where
   all_spots : spots ≡ map (spot_of t) flat.slots
   all_spots = made.spots_are ∙ ap (λ (es : List Entry). map (spot_among es) flat.slots) made.entries_are ∙ spots_among t flat.slots sorted
 
@@ -133,25 +147,31 @@ module _ (seal : Seal) (flat : Flat) (t : TableState) (sorted : IsTable t) (entr
 
   -- nothing is told where the counts don't hold
   pub none_decided : counts_hold seal homes spots pages ≡ false → None ≡ judged seal flat t
-  none_decided fails = sym (ap (λ b. if b then sectors_taken seal.sectors flat.named (map (spot_of t) flat.slots) t else None) (sym counts_are ∙ fails))
+  none_decided fails = sym
+      (ap (λ b. if b then sectors_taken seal.sectors flat.named (map (spot_of t) flat.slots) t else None) (sym counts_are ∙ fails))
 
   -- the places decide, once the counts hold
-  pub places_decide : {E : Type 0} (named : List ℕ) (result : Result (Option (List Bool)) E) → named ≡ flat.named → counts_hold seal homes spots pages ≡ true
+  pub places_decide : {E : Type 0} (named : List ℕ) (result : Result (Option (List Bool)) E) → named ≡ flat.named
+      → counts_hold seal homes spots pages ≡ true
       → IfOk result (λ found. found ≡ sectors_taken seal.sectors named spots t) → IfOk result (λ found. found ≡ judged seal flat t)
   places_decide named result named_are right told =
-      ok_weaker (λ found. found ≡ sectors_taken seal.sectors named spots t) (λ found. found ≡ judged seal flat t) (λ found is. is ∙ by_counts) result told
+      ok_weaker (λ found. found ≡ sectors_taken seal.sectors named spots t) (λ found. found ≡ judged seal flat t)
+      (λ found is. is ∙ by_counts) result told
     where
       by_counts : sectors_taken seal.sectors named spots t ≡ judged seal flat t
       by_counts =
           ap (λ (n : List ℕ). sectors_taken seal.sectors n spots t) named_are
           ∙ ap (λ (s : List Spot). sectors_taken seal.sectors flat.named s t) all_spots
-          ∙ sym (ap (λ b. if b then sectors_taken seal.sectors flat.named (map (spot_of t) flat.slots) t else None) (sym counts_are ∙ right))
+          ∙ sym (ap (λ b. if b then sectors_taken seal.sectors flat.named (map (spot_of t) flat.slots) t else None)
+          (sym counts_are ∙ right))
 
 -- the homes of a table rise, and so do those that are counted
 pub found_rising : (t : TableState) (entries : List Entry) → IsTable t → entries ≡ entries_found t → AreRising entries
 found_rising t entries sorted are = subst AreRising (sym are) (rising_found t sorted)
 
 -- the homes that are counted rise as those that are found do
-pub homes_rising : (t : TableState) (entries homes : List Entry) → IsTable t → entries ≡ entries_found t → homes ≡ filter (λ entry. nat_lt 0 entry.home.count) entries → AreRising homes
+pub homes_rising : (t : TableState) (entries homes : List Entry) → IsTable t → entries ≡ entries_found t
+    → homes ≡ filter (λ entry. nat_lt 0 entry.home.count) entries → AreRising homes
 homes_rising t entries homes sorted are homes_are =
-    subst AreRising (sym homes_are) (pairs_filter IsBefore (λ (entry : Entry). nat_lt 0 entry.home.count) entries (found_rising t entries sorted are))
+    subst AreRising (sym homes_are)
+    (pairs_filter IsBefore (λ (entry : Entry). nat_lt 0 entry.home.count) entries (found_rising t entries sorted are))

@@ -19,7 +19,8 @@ every_unmap P f [] each = tt
 every_unmap P f (x ∷ xs) each = (each.0, every_unmap P f xs each.1)
 
 -- the relation between each earlier one and one that follows
-pub pairs_before : {X : Type 0} (R : X → X → Type 0) (xs : List X) (y : X) (ys : List X) → Pairwise R (xs ++ y ∷ ys) → AllByRecursion (λ x. R x y) xs
+pub pairs_before : {X : Type 0} (R : X → X → Type 0) (xs : List X) (y : X) (ys : List X) → Pairwise R (xs ++ y ∷ ys)
+    → AllByRecursion (λ x. R x y) xs
 pairs_before R [] y ys pairs = tt
 pairs_before R (x ∷ xs) y ys pairs = (middle xs pairs.0, pairs_before R xs y ys pairs.1)
   where
@@ -28,7 +29,8 @@ pairs_before R (x ∷ xs) y ys pairs = (middle xs pairs.0, pairs_before R xs y y
     middle (z ∷ zs) each = middle zs each.1
 
 -- one element more, to which each earlier one is related
-pub pairs_push : {X : Type 0} (R : X → X → Type 0) (xs : List X) (y : X) → Pairwise R xs → AllByRecursion (λ x. R x y) xs → Pairwise R (xs ++ y ∷ [])
+pub pairs_push : {X : Type 0} (R : X → X → Type 0) (xs : List X) (y : X) → Pairwise R xs → AllByRecursion (λ x. R x y) xs
+    → Pairwise R (xs ++ y ∷ [])
 pairs_push R [] y pairs each = (tt, tt)
 pairs_push R (x ∷ xs) y pairs each = (all_push (R x) xs y pairs.0 each.0, pairs_push R xs y pairs.1 each.1)
 
@@ -43,23 +45,29 @@ pairs_unmap R f [] pairs = tt
 pairs_unmap R f (x ∷ xs) pairs = (every_unmap (R (f x)) f xs pairs.0, pairs_unmap R f xs pairs.1)
 
 -- two facts of each, and a relation between each two, say another
-pub pairs_weaker : {X : Type 0} (P : X → Type 0) (R S : X → X → Type 0) → ((a b : X) → P a → P b → R a b → S a b) → (xs : List X) → AllByRecursion P xs → Pairwise R xs → Pairwise S xs
+pub pairs_weaker : {X : Type 0} (P : X → Type 0) (R S : X → X → Type 0) → ((a b : X) → P a → P b → R a b → S a b) → (xs : List X)
+    → AllByRecursion P xs → Pairwise R xs → Pairwise S xs
 pairs_weaker P R S weaker [] each pairs = tt
 pairs_weaker P R S weaker (x ∷ xs) each pairs =
     (all_from_both P (R x) (S x) (λ y holds related. weaker x y each.0 holds related) xs each.1 pairs.0, pairs_weaker P R S weaker xs each.1 pairs.1)
 
 -- two relations between each two say another
-pub pairs_both : {X : Type 0} (R S U : X → X → Type 0) → ((a b : X) → R a b → S a b → U a b) → (xs : List X) → Pairwise R xs → Pairwise S xs → Pairwise U xs
+pub pairs_both : {X : Type 0} (R S U : X → X → Type 0) → ((a b : X) → R a b → S a b → U a b) → (xs : List X) → Pairwise R xs → Pairwise S xs
+    → Pairwise U xs
 pairs_both R S U both [] first second = tt
-pairs_both R S U both (x ∷ xs) first second = (all_from_both (R x) (S x) (U x) (both x) xs first.0 second.0, pairs_both R S U both xs first.1 second.1)
+pairs_both R S U both
+    (x ∷ xs) first second = (all_from_both (R x) (S x) (U x) (both x) xs first.0 second.0, pairs_both R S U both xs first.1 second.1)
 
 -- what passed a test, as an implication on each
-pub every_unfilter : {X : Type 0} (P : X → Type 0) (test : X → Bool) (xs : List X) → AllByRecursion P (filter test xs) → AllByRecursion (λ x. test x ≡ true → P x) xs
+pub every_unfilter : {X : Type 0} (P : X → Type 0) (test : X → Bool) (xs : List X) → AllByRecursion P (filter test xs)
+    → AllByRecursion (λ x. test x ≡ true → P x) xs
 every_unfilter P test [] each = tt
 every_unfilter P test (x ∷ xs) each =
     by_test (test x) each (λ rest. every_unfilter P test xs rest)
   where
-    by_test : (b : Bool) → AllByRecursion P (cond b (x ∷ filter test xs) (filter test xs)) → (AllByRecursion P (filter test xs) → AllByRecursion (λ x. test x ≡ true → P x) xs) → (b ≡ true → P x) × AllByRecursion (λ x. test x ≡ true → P x) xs
+    by_test : (b : Bool) → AllByRecursion P (cond b (x ∷ filter test xs) (filter test xs))
+        → (AllByRecursion P (filter test xs) → AllByRecursion (λ x. test x ≡ true → P x) xs)
+        → (b ≡ true → P x) × AllByRecursion (λ x. test x ≡ true → P x) xs
     by_test true each again = (λ _. each.0, again each.1)
     by_test false each again = (λ is. absurd (false≢true is), again each)
 

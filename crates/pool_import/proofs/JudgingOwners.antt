@@ -81,18 +81,23 @@ slice_get-last (z ∷ xs) x = slice_get-last xs x
 owner_past : (done : List Spot) (s n : ℕ) (x : Spot) → (x.place == s) ≡ false → Owner done s n → Owner (done ++ x ∷ []) s n
 owner_past done s n x elsewhere (none each) = none (all_push (λ (y : Spot). (y.place == s) ≡ false) done x each elsewhere)
 owner_past done s n x elsewhere (some i o there lies each) =
-    some i o (slice_get-front done (x ∷ []) i o there) lies (all_push (IsOf s o) done x each (λ here. absurd (false≢true (sym elsewhere ∙ here))))
+    some i o (slice_get-front done (x ∷ []) i o there) lies
+    (all_push (IsOf s o) done x each (λ here. absurd (false≢true (sym elsewhere ∙ here))))
 
 -- one more that shares with the owner
-owner_shared : (done : List Spot) (s i : ℕ) (o x : Spot) → slice_get done i ≡ Some o → Lies s o → AllByRecursion (IsOf s o) done → are_shared o x ≡ true → Owner (done ++ x ∷ []) s (i + 1)
+owner_shared : (done : List Spot) (s i : ℕ) (o x : Spot) → slice_get done i ≡ Some o → Lies s o → AllByRecursion (IsOf s o) done
+    → are_shared o x ≡ true → Owner (done ++ x ∷ []) s (i + 1)
 owner_shared done s i o x there lies each shared =
     some i o (slice_get-front done (x ∷ []) i o there) lies (all_push (IsOf s o) done x each (λ _. inr shared))
 
 -- one more that becomes the owner
-owner_new : (done : List Spot) (s : ℕ) (x : Spot) → Lies s x → AllByRecursion (λ (y : Spot). (y.place == s) ≡ false) done → Owner (done ++ x ∷ []) s (length done + 1)
+owner_new : (done : List Spot) (s : ℕ) (x : Spot) → Lies s x → AllByRecursion (λ (y : Spot). (y.place == s) ≡ false) done
+    → Owner (done ++ x ∷ []) s (length done + 1)
 owner_new done s x lies each =
     some (length done) x (slice_get-last done x) lies
-    (all_push (IsOf s x) done x (all_from (λ (y : Spot). (y.place == s) ≡ false) (IsOf s x) (λ y elsewhere here. absurd (false≢true (sym elsewhere ∙ here))) done each) (λ _. inl refl))
+    (all_push (IsOf s x) done x
+    (all_from (λ (y : Spot). (y.place == s) ≡ false) (IsOf s x) (λ y elsewhere here. absurd (false≢true (sym elsewhere ∙ here))) done each)
+    (λ _. inl refl))
 
 -- each sector has its owner
 record Owners (done : List Spot) (owners : List ℕ) : Type 0 where
@@ -140,7 +145,8 @@ not_apart s o x here lies alone apart =
 
 -- what a step of the recursion comes to
 data Step (all done : List Spot) (at : ℕ) (owners : List ℕ) (x : Spot) (xs : List Spot) : Type 0 where
-  goes : (next : List ℕ) → are_owned all at owners (x ∷ xs) ≡ are_owned all (at + 1) next xs → length next ≡ length owners → Owners (done ++ x ∷ []) next → AllByRecursion (IsApartFrom x) done → Step all done at owners x xs
+  goes : (next : List ℕ) → are_owned all at owners (x ∷ xs) ≡ are_owned all (at + 1) next xs → length next ≡ length owners
+      → Owners (done ++ x ∷ []) next → AllByRecursion (IsApartFrom x) done → Step all done at owners x xs
   stops : are_owned all at owners (x ∷ xs) ≡ false → (AllByRecursion (IsApartFrom x) done → ⊥) → Step all done at owners x xs
 
 -- no owner
@@ -153,7 +159,8 @@ isnt_zero n i more =
     ⊎_elim (λ here. absurd (omega (arith, here.1))) (λ other. other.0) (eqb_tells n 0)
 
 -- one step of the recursion
-step : (all done : List Spot) (at : ℕ) (owners : List ℕ) (x : Spot) (xs : List Spot) → all ≡ done ++ x ∷ xs → at ≡ length done → x.place < length owners → Owners done owners → Step all done at owners x xs
+step : (all done : List Spot) (at : ℕ) (owners : List ℕ) (x : Spot) (xs : List Spot) → all ≡ done ++ x ∷ xs → at ≡ length done
+    → x.place < length owners → Owners done owners → Step all done at owners x xs
 step all done at owners x xs split here within inv = by_owner (get_or owners x.place 0) refl (inv.each x.place within)
   where
     further : ℕ → Bool
@@ -166,18 +173,22 @@ step all done at owners x xs split here within inv = by_owner (get_or owners x.p
     lies = eq-eqb x.place x.place refl
 
     -- a sector's owner after x became the owner of its own
-    renewed : AllByRecursion (λ (y : Spot). (y.place == x.place) ≡ false) done → (s : ℕ) → s < length (set owners x.place (at + 1)) → Owner (done ++ x ∷ []) s (get_or (set owners x.place (at + 1)) s 0)
+    renewed : AllByRecursion (λ (y : Spot). (y.place == x.place) ≡ false) done → (s : ℕ) → s < length (set owners x.place (at + 1))
+        → Owner (done ++ x ∷ []) s (get_or (set owners x.place (at + 1)) s 0)
     renewed each s lt =
         ⊎_elim
         (λ same. subst (Owner (done ++ x ∷ []) s)
-        (ap (λ n. n + 1) (sym here) ∙ sym (ap (λ n. get_or (set owners x.place (at + 1)) n 0) (sym same.1) ∙ get_or-set_same owners x.place (at + 1) 0 within))
+        (ap (λ n. n + 1) (sym here)
+        ∙ sym (ap (λ n. get_or (set owners x.place (at + 1)) n 0) (sym same.1) ∙ get_or-set_same owners x.place (at + 1) 0 within))
         (subst (λ n. Owner (done ++ x ∷ []) n (length done + 1)) same.1 (owner_new done x.place x lies each)))
         (λ other. subst (Owner (done ++ x ∷ []) s)
         (sym (get_or-set_other owners x.place s (at + 1) 0 (λ e. other.1 (sym e))))
         (owner_past done s (get_or owners s 0) x other.0 (inv.each s (omega (arith, length-set owners x.place (at + 1))))))
         (eqb_tells x.place s)
 
-    kept : (i : ℕ) (o : Spot) → get_or owners x.place 0 ≡ i + 1 → slice_get done i ≡ Some o → Lies x.place o → AllByRecursion (IsOf x.place o) done → are_shared o x ≡ true → (s : ℕ) → s < length owners → Owner (done ++ x ∷ []) s (get_or owners s 0)
+    kept : (i : ℕ) (o : Spot) → get_or owners x.place 0 ≡ i + 1 → slice_get done i ≡ Some o → Lies x.place o
+        → AllByRecursion (IsOf x.place o) done → are_shared o x ≡ true → (s : ℕ) → s < length owners
+        → Owner (done ++ x ∷ []) s (get_or owners s 0)
     kept i o is there on each shared s lt =
         ⊎_elim
         (λ same. subst (λ n. Owner (done ++ x ∷ []) n (get_or owners n 0)) same.1
@@ -185,10 +196,13 @@ step all done at owners x xs split here within inv = by_owner (get_or owners x.p
         (λ other. owner_past done s (get_or owners s 0) x other.0 (inv.each s lt))
         (eqb_tells x.place s)
 
-    by_shared : (i : ℕ) (o : Spot) → get_or owners x.place 0 ≡ i + 1 → slice_get done i ≡ Some o → Lies x.place o → AllByRecursion (IsOf x.place o) done
-        → are_owned all at owners (x ∷ xs) ≡ (are_shared o x && are_owned all (at + 1) owners xs) → (b : Bool) → are_shared o x ≡ b → Step all done at owners x xs
+    by_shared : (i : ℕ) (o : Spot) → get_or owners x.place 0 ≡ i + 1 → slice_get done i ≡ Some o → Lies x.place o
+        → AllByRecursion (IsOf x.place o) done
+        → are_owned all at owners (x ∷ xs) ≡ (are_shared o x && are_owned all (at + 1) owners xs) → (b : Bool) → are_shared o x ≡ b
+        → Step all done at owners x xs
     by_shared i o is there on each comes true shared =
-        goes owners (comes ∙ ap (λ b. b && are_owned all (at + 1) owners xs) shared) refl (record { each = kept i o is there on each shared })
+        goes owners (comes ∙ ap (λ b. b && are_owned all (at + 1) owners xs) shared) refl
+        (record { each = kept i o is there on each shared })
         (all_from (IsOf x.place o) (IsApartFrom x) (λ y of. shared_apart x.place o x y refl shared of) done each)
     by_shared i o is there on each comes false alone =
         stops (comes ∙ ap (λ b. b && are_owned all (at + 1) owners xs) alone)
@@ -196,9 +210,12 @@ step all done at owners x xs split here within inv = by_owner (get_or owners x.p
 
     by_owner : (n : ℕ) → get_or owners x.place 0 ≡ n → Owner done x.place n → Step all done at owners x xs
     by_owner n is (none each) =
-        goes (set owners x.place (at + 1)) (ap (λ b. if b then fresh else further (slice_index owners x.place)) (is_zero (slice_index owners x.place) is)) (length-set owners x.place (at + 1))
+        goes (set owners x.place (at + 1))
+        (ap (λ b. if b then fresh else further (slice_index owners x.place)) (is_zero (slice_index owners x.place) is))
+        (length-set owners x.place (at + 1))
         (record { each = renewed each })
-        (all_from (λ (y : Spot). (y.place == x.place) ≡ false) (IsApartFrom x) (λ y elsewhere. elsewhere_apart x.place x y refl elsewhere) done each)
+        (all_from (λ (y : Spot). (y.place == x.place) ≡ false) (IsApartFrom x)
+        (λ y elsewhere. elsewhere_apart x.place x y refl elsewhere) done each)
     by_owner n is (some i o there on each) =
         let found : slice_get all i ≡ Some o = ap (λ (l : List Spot). slice_get l i) split ∙ slice_get-front done (x ∷ xs) i o there in
         let index : slice_index owners x.place - 1 ≡ i = omega (arith, is) in
@@ -223,7 +240,9 @@ record At (all done rest : List Spot) (at : ℕ) (owners : List ℕ) : Type 0 wh
   apart : AreApart done
 
 -- where what is left begins after a step
-next_at : (all done : List Spot) (x : Spot) (xs : List Spot) (at : ℕ) (owners next : List ℕ) → At all done (x ∷ xs) at owners → length next ≡ length owners → Owners (done ++ x ∷ []) next → AllByRecursion (IsApartFrom x) done → At all (done ++ x ∷ []) xs (at + 1) next
+next_at : (all done : List Spot) (x : Spot) (xs : List Spot) (at : ℕ) (owners next : List ℕ) → At all done (x ∷ xs) at owners
+    → length next ≡ length owners → Owners (done ++ x ∷ []) next → AllByRecursion (IsApartFrom x) done
+    → At all (done ++ x ∷ []) xs (at + 1) next
 next_at all done x xs at owners next now same inv apart = record {
   split = now.split ∙ sym (append_assoc done (x ∷ []) xs);
   number = ap (λ n. n + 1) now.number ∙ sym (length-append done (x ∷ []));
@@ -233,24 +252,32 @@ next_at all done x xs at owners next now same inv apart = record {
 }
 
 -- a test that passes says that each two go together
-sound : (rest all done : List Spot) (at : ℕ) (owners : List ℕ) → At all done rest at owners → are_owned all at owners rest ≡ true → AreApart all
+sound : (rest all done : List Spot) (at : ℕ) (owners : List ℕ) → At all done rest at owners → are_owned all at owners rest ≡ true
+    → AreApart all
 sound [] all done at owners now passed = subst AreApart (sym (now.split ∙ append-nil done)) now.apart
 sound (x ∷ xs) all done at owners now passed =
-    by_step (λ next there rest. sound xs all (done ++ x ∷ []) (at + 1) next there rest) (step all done at owners x xs now.split now.number now.within.0 now.owners_are)
+    by_step (λ next there rest. sound xs all (done ++ x ∷ []) (at + 1) next there rest)
+    (step all done at owners x xs now.split now.number now.within.0 now.owners_are)
   where
-    by_step : ((next : List ℕ) → At all (done ++ x ∷ []) xs (at + 1) next → are_owned all (at + 1) next xs ≡ true → AreApart all) → Step all done at owners x xs → AreApart all
-    by_step again (goes next comes same inv apart) = again next (next_at all done x xs at owners next now same inv apart) (sym comes ∙ passed)
+    by_step : ((next : List ℕ) → At all (done ++ x ∷ []) xs (at + 1) next → are_owned all (at + 1) next xs ≡ true → AreApart all)
+        → Step all done at owners x xs → AreApart all
+    by_step again (goes next comes same inv apart) = again next (next_at all done x xs at owners next now same inv apart)
+        (sym comes ∙ passed)
     by_step again (stops comes not_apart) = absurd (false≢true (sym comes ∙ passed))
 
 -- and where they do, it passes
-complete : (rest all done : List Spot) (at : ℕ) (owners : List ℕ) → At all done rest at owners → AreApart all → are_owned all at owners rest ≡ true
+complete : (rest all done : List Spot) (at : ℕ) (owners : List ℕ) → At all done rest at owners → AreApart all
+    → are_owned all at owners rest ≡ true
 complete [] all done at owners now pairs = refl
 complete (x ∷ xs) all done at owners now pairs =
-    by_step (λ next there. complete xs all (done ++ x ∷ []) (at + 1) next there pairs) (step all done at owners x xs now.split now.number now.within.0 now.owners_are)
+    by_step (λ next there. complete xs all (done ++ x ∷ []) (at + 1) next there pairs)
+    (step all done at owners x xs now.split now.number now.within.0 now.owners_are)
   where
-    by_step : ((next : List ℕ) → At all (done ++ x ∷ []) xs (at + 1) next → are_owned all (at + 1) next xs ≡ true) → Step all done at owners x xs → are_owned all at owners (x ∷ xs) ≡ true
+    by_step : ((next : List ℕ) → At all (done ++ x ∷ []) xs (at + 1) next → are_owned all (at + 1) next xs ≡ true)
+        → Step all done at owners x xs → are_owned all at owners (x ∷ xs) ≡ true
     by_step again (goes next comes same inv apart) = comes ∙ again next (next_at all done x xs at owners next now same inv apart)
-    by_step again (stops comes not_apart) = absurd (not_apart (pairs_before (λ a b. go_apart a b ≡ true) done x xs (subst AreApart now.split pairs)))
+    by_step again (stops comes not_apart) = absurd
+        (not_apart (pairs_before (λ a b. go_apart a b ≡ true) done x xs (subst AreApart now.split pairs)))
 
 -- at first no sector has an owner
 first_at : (all : List Spot) (n : ℕ) → AllByRecursion (λ (y : Spot). y.place < n) all → At all [] all 0 (replicate n 0)
@@ -263,9 +290,11 @@ first_at all n within = record {
 }
 
 -- the owners tell it
-pub apart_if_owned : (all : List Spot) (n : ℕ) → AllByRecursion (λ (y : Spot). y.place < n) all → are_owned all 0 (replicate n 0) all ≡ true → AreApart all
+pub apart_if_owned : (all : List Spot) (n : ℕ) → AllByRecursion (λ (y : Spot). y.place < n) all → are_owned all 0 (replicate n 0) all ≡ true
+    → AreApart all
 apart_if_owned all n within passed = sound all all [] 0 (replicate n 0) (first_at all n within) passed
 
 -- and are told by it
-pub owned_if_apart : (all : List Spot) (n : ℕ) → AllByRecursion (λ (y : Spot). y.place < n) all → AreApart all → are_owned all 0 (replicate n 0) all ≡ true
+pub owned_if_apart : (all : List Spot) (n : ℕ) → AllByRecursion (λ (y : Spot). y.place < n) all → AreApart all
+    → are_owned all 0 (replicate n 0) all ≡ true
 owned_if_apart all n within pairs = complete all all [] 0 (replicate n 0) (first_at all n within) pairs

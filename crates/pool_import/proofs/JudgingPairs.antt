@@ -32,7 +32,8 @@ apart_if place other n m one two differ = by_order (nat_lt place other) refl
 -- runs that are apart are two
 pub differ_if : (place other n m : ℕ) → n ≡ 1 → m ≡ 1 → IsApart place n other m → (place == other) ≡ false
 differ_if place other n m one two apart =
-    ⊎_elim (λ here. absurd (⊎_elim {C = ⊥} (λ before. omega (arith, here.1)) (λ behind. omega (arith, here.1)) apart)) (λ differ. differ.0) (eqb_tells place other)
+    ⊎_elim (λ here. absurd (⊎_elim {C = ⊥} (λ before. omega (arith, here.1)) (λ behind. omega (arith, here.1)) apart)) (λ differ. differ.0)
+    (eqb_tells place other)
 
 -- ---- A slot's ranges
 
@@ -44,19 +45,22 @@ pub record IsRanged (sectors group : ℕ) (p : Pointer) : Type 0 where
   pub run : run_length p.key ≡ 1
 
 -- a slot in its ranges makes such a pointer
-pub ranged_of : (sectors group : ℕ) (image : Image) (table : TableState) (slot : SlotRecord) → is_slot sectors group slot ≡ true → IsRanged sectors group (pointer_of image table slot)
+pub ranged_of : (sectors group : ℕ) (image : Image) (table : TableState) (slot : SlotRecord) → is_slot sectors group slot ≡ true
+    → IsRanged sectors group (pointer_of image table slot)
 ranged_of sectors group image table slot is =
     let ranges = is_slot-from sectors group slot is in
     record { start = ranges.place.0; on_disk = ranges.place.1; group_is = ranges.birth.1; run = one_sector slot.pointer.key ranges.len }
 
 -- such a pointer lies within the disk
 pub within_of : (sectors group : ℕ) (p : Pointer) → IsRanged sectors group p → LiesWithin sectors group p
-within_of sectors group p ranged = record { start = ranged.start; end = let run = ranged.run in let on = ranged.on_disk in omega (arith, run, on); birth = ranged.group_is }
+within_of sectors group p ranged = record
+    { start = ranged.start; end = let run = ranged.run in let on = ranged.on_disk in omega (arith, run, on); birth = ranged.group_is }
 
 -- ---- Two pointers
 
 -- slots that rise aren't one
-slots_apart : (lane slot lane' slot' : ℕ) → (nat_lt lane lane' || ((lane == lane') && nat_lt slot slot')) ≡ true → ((lane' == lane) && (slot' == slot)) ≡ false
+slots_apart : (lane slot lane' slot' : ℕ) → (nat_lt lane lane' || ((lane == lane') && nat_lt slot slot')) ≡ true
+    → ((lane' == lane) && (slot' == slot)) ≡ false
 slots_apart lane slot lane' slot' before = grind (arith, nat_tests)
 
 -- what the test of sharing says
@@ -84,8 +88,10 @@ pub record IsInOrder (table : TableState) (sectors group : ℕ) (p : Pointer) : 
   pub ranged : IsRanged sectors group p
   pub known : IsKnown table p
 
-module _ (table : TableState) (sectors group : ℕ) (p q : Pointer) (one : IsInOrder table sectors group p) (other : IsInOrder table sectors group q) where
-  two_blocks : go_apart (spot_in p) (spot_in q) ≡ true → is_shared p q ≡ false → IsApart p.place (run_length p.key) q.place (run_length q.key)
+module _ (table : TableState) (sectors group : ℕ) (p q : Pointer) (one : IsInOrder table sectors group p)
+    (other : IsInOrder table sectors group q) where
+  two_blocks : go_apart (spot_in p) (spot_in q) ≡ true → is_shared p q ≡ false
+      → IsApart p.place (run_length p.key) q.place (run_length q.key)
   two_blocks apart alone =
       apart_if p.place q.place (run_length p.key) (run_length q.key) one.ranged.run other.ranged.run
       (λ same. false≢true (sym (ap (λ b. b || not (p.place == q.place)) alone ∙ ap not (eq-eqb p.place q.place same)) ∙ apart))
@@ -98,31 +104,40 @@ module _ (table : TableState) (sectors group : ℕ) (p q : Pointer) (one : IsInO
     where
       by_shared : (b : Bool) → is_shared p q ≡ b → (b || not (p.place == q.place)) ≡ true
       by_shared true shared = refl
-      by_shared false alone = ap not (differ_if p.place q.place (run_length p.key) (run_length q.key) one.ranged.run other.ranged.run (go.two_blocks alone))
+      by_shared false alone = ap not
+          (differ_if p.place q.place (run_length p.key) (run_length q.key) one.ranged.run other.ranged.run (go.two_blocks alone))
 
 -- ---- All pointers
 
 -- slots that rise are each another
-pub slots_differ : (image : Image) (table : TableState) (slots : List SlotRecord) → Pairwise (λ a b. stands_before a b ≡ true) slots → Pairwise (λ (p q : Pointer). is_at p.lane p.slot q ≡ false) (map (pointer_of image table) slots)
+pub slots_differ : (image : Image) (table : TableState) (slots : List SlotRecord) → Pairwise (λ a b. stands_before a b ≡ true) slots
+    → Pairwise (λ (p q : Pointer). is_at p.lane p.slot q ≡ false) (map (pointer_of image table) slots)
 slots_differ image table slots rising =
     pairs_map (λ (p q : Pointer). is_at p.lane p.slot q ≡ false) (pointer_of image table) slots
-    (pairs_weaker (λ (s : SlotRecord). Unit {0}) (λ a b. stands_before a b ≡ true) (λ (a b : SlotRecord). is_at a.lane a.slot (pointer_of image table b) ≡ false) (λ a b _ _ before. slots_apart a.lane a.slot b.lane b.slot before) slots (any slots) rising)
+    (pairs_weaker (λ (s : SlotRecord). Unit {0}) (λ a b. stands_before a b ≡ true)
+    (λ (a b : SlotRecord). is_at a.lane a.slot (pointer_of image table b) ≡ false)
+    (λ a b _ _ before. slots_apart a.lane a.slot b.lane b.slot before) slots (any slots) rising)
   where
     any : (xs : List SlotRecord) → AllByRecursion (λ (s : SlotRecord). Unit {0}) xs
     any [] = tt
     any (x ∷ xs) = (tt, any xs)
 
 -- pointers in other slots, each two of which lie apart or share, go together
-pub together_if_apart : (table : TableState) (sectors group : ℕ) (ps : List Pointer) → AllByRecursion (IsInOrder table sectors group) ps → Pairwise (λ (p q : Pointer). is_at p.lane p.slot q ≡ false) ps
+pub together_if_apart : (table : TableState) (sectors group : ℕ) (ps : List Pointer) → AllByRecursion (IsInOrder table sectors group) ps
+    → Pairwise (λ (p q : Pointer). is_at p.lane p.slot q ≡ false) ps
     → Pairwise (λ a b. go_apart a b ≡ true) (map spot_in ps) → Pairwise GoTogether ps
 together_if_apart table sectors group ps sound slots apart_all =
-    pairs_weaker (IsInOrder table sectors group) (λ (p q : Pointer). (is_at p.lane p.slot q ≡ false) × (go_apart (spot_in p) (spot_in q) ≡ true)) GoTogether
+    pairs_weaker (IsInOrder table sectors group)
+    (λ (p q : Pointer). (is_at p.lane p.slot q ≡ false) × (go_apart (spot_in p) (spot_in q) ≡ true)) GoTogether
     (λ p q one other both. together table sectors group p q one other both.0 both.1) ps sound
-    (pairs_both (λ (p q : Pointer). is_at p.lane p.slot q ≡ false) (λ (p q : Pointer). go_apart (spot_in p) (spot_in q) ≡ true) (λ (p q : Pointer). (is_at p.lane p.slot q ≡ false) × (go_apart (spot_in p) (spot_in q) ≡ true))
+    (pairs_both (λ (p q : Pointer). is_at p.lane p.slot q ≡ false) (λ (p q : Pointer). go_apart (spot_in p) (spot_in q) ≡ true)
+    (λ (p q : Pointer). (is_at p.lane p.slot q ≡ false) × (go_apart (spot_in p) (spot_in q) ≡ true))
     (λ p q one other. (one, other)) ps slots (pairs_unmap (λ a b. go_apart a b ≡ true) spot_in ps apart_all))
 
 -- and back
-pub apart_if_together : (table : TableState) (sectors group : ℕ) (ps : List Pointer) → AllByRecursion (IsInOrder table sectors group) ps → Pairwise GoTogether ps → Pairwise (λ a b. go_apart a b ≡ true) (map spot_in ps)
+pub apart_if_together : (table : TableState) (sectors group : ℕ) (ps : List Pointer) → AllByRecursion (IsInOrder table sectors group) ps
+    → Pairwise GoTogether ps → Pairwise (λ a b. go_apart a b ≡ true) (map spot_in ps)
 apart_if_together table sectors group ps sound pairs =
     pairs_map (λ a b. go_apart a b ≡ true) spot_in ps
-    (pairs_weaker (IsInOrder table sectors group) GoTogether (λ (p q : Pointer). go_apart (spot_in p) (spot_in q) ≡ true) (λ p q one other go. apart table sectors group p q one other go) ps sound pairs)
+    (pairs_weaker (IsInOrder table sectors group) GoTogether (λ (p q : Pointer). go_apart (spot_in p) (spot_in q) ≡ true)
+    (λ p q one other go. apart table sectors group p q one other go) ps sound pairs)

@@ -11,16 +11,23 @@ use Rattle.pool_import.specs.Whole.{IsWhole}
 use Rattle.pool_import.specs.Imports.{IsMade, held_of}
 
 -- what was judged keeps all rules, and the pool is of it
-pub made_of : (tag : ℕ) (seal : Seal) (flat : Flat) (held : Held) (used : List Bool) (found : Option (List Bool)) → found ≡ Some used → HoldTogether seal flat
-    → IfSome found (λ sectors. (image : Image) → IsWhole image seal flat × (sectors ≡ used_sectors seal.sectors flat.named (pool_in image seal flat) (table_in seal flat)))
+pub made_of : (tag : ℕ) (seal : Seal) (flat : Flat) (held : Held) (used : List Bool) (found : Option (List Bool)) → found ≡ Some used
+    → HoldTogether seal flat
+    → IfSome found (λ sectors. (image : Image)
+    → IsWhole image seal flat × (sectors ≡ used_sectors seal.sectors flat.named (pool_in image seal flat) (table_in seal flat)))
     → held ≡ held_of tag seal flat used → IsMade tag seal flat held
 made_of tag seal flat held used found is together judged same =
-    let each : (image : Image) → IsWhole image seal flat × (used ≡ used_sectors seal.sectors flat.named (pool_in image seal flat) (table_in seal flat)) =
-    subst (λ (o : Option (List Bool)). IfSome o (λ sectors. (image : Image) → IsWhole image seal flat × (sectors ≡ used_sectors seal.sectors flat.named (pool_in image seal flat) (table_in seal flat)))) is judged in
+    let each : (image : Image)
+    → IsWhole image seal flat × (used ≡ used_sectors seal.sectors flat.named (pool_in image seal flat) (table_in seal flat)) =
+    subst (λ (o : Option (List Bool)). IfSome o
+    (λ sectors. (image : Image)
+    → IsWhole image seal flat × (sectors ≡ used_sectors seal.sectors flat.named (pool_in image seal flat) (table_in seal flat)))) is
+    judged in
     record { used = used; together = together; whole = λ image. (each image).0; used_are = λ image. (each image).1; held_is = same }
 
 -- a list whose items are those of another, by a function
-pub mapped : {X : Type 0} (f : ℕ → X) (xs : List ℕ) (ys : List X) (default : X) → length ys ≡ length xs → ((i : ℕ) → i < length xs → get_or ys i default ≡ f (get_or xs i 0)) → ys ≡ map f xs
+pub mapped : {X : Type 0} (f : ℕ → X) (xs : List ℕ) (ys : List X) (default : X) → length ys ≡ length xs
+    → ((i : ℕ) → i < length xs → get_or ys i default ≡ f (get_or xs i 0)) → ys ≡ map f xs
 mapped f xs ys default long each =
     ext_get_or default ys (map f xs) (long ∙ sym (length-map xs f))
     (λ i within.

@@ -15,7 +15,8 @@ use Rattle.pool_import.specs.Imports.{IsStanding, IsMade, IsMadeOf, held_of}
 
 -- ---- A pool that was found
 
-module _ (tag : ℕ) (image : Image) (seal : Seal) (flat : Flat) (counts : newest image_version image ≡ Some seal) (standing : IsStanding tag image seal flat) where
+module _ (tag : ℕ) (image : Image) (seal : Seal) (flat : Flat) (counts : newest image_version image ≡ Some seal)
+    (standing : IsStanding tag image seal flat) where
   abbrev stands : StandsFor tag image (pool_in image seal flat) (table_in seal flat)
   stands = record {
     seal = seal;
@@ -36,12 +37,14 @@ module _ (tag : ℕ) (image : Image) (seal : Seal) (flat : Flat) (counts : newes
   }
 
 -- the pool in memory is of what the image stands for
-pub is_held : (tag : ℕ) (image : Image) (seal : Seal) (held : Held) → newest image_version image ≡ Some seal → IsMadeOf tag image seal held → (pool : Pool) × (table : TableState) × IsHeld image held pool table
+pub is_held : (tag : ℕ) (image : Image) (seal : Seal) (held : Held) → newest image_version image ≡ Some seal → IsMadeOf tag image seal held
+    → (pool : Pool) × (table : TableState) × IsHeld image held pool table
 is_held tag image seal held counts made_of =
     let flat : Flat = made_of.flat in
     let made : IsMade tag seal flat held = made_of.made in
     let kept : IsHeld image (held_of tag seal flat made.used) (pool_in image seal flat) (table_in seal flat) = record {
-      stands = stands tag image seal flat counts (record { formed = made_of.formed; read = made_of.read; together = made.together; whole = made.whole image });
+      stands = stands tag image seal flat counts
+          (record { formed = made_of.formed; read = made_of.read; together = made.together; whole = made.whole image });
       slots_are = refl;
       table_is = refl;
       pages_are = refl;
@@ -59,7 +62,8 @@ same_some : {X : Type 0} (a b : X) → Some a ≡ Some b → a ≡ b
 same_some a b same = ap (λ o. unwrap_or o a) same
 
 -- what an image stands for stands under the seal that counts
-standing_of : (tag : ℕ) (image : Image) (seal : Seal) (pool : Pool) (table : TableState) → newest image_version image ≡ Some seal → (state : StandsFor tag image pool table) → IsStanding tag image seal state.flat
+standing_of : (tag : ℕ) (image : Image) (seal : Seal) (pool : Pool) (table : TableState) → newest image_version image ≡ Some seal
+    → (state : StandsFor tag image pool table) → IsStanding tag image seal state.flat
 standing_of tag image seal pool table counts state =
     subst (λ (s : Seal). IsStanding tag image s state.flat) (same_some state.seal seal (sym state.counts ∙ counts))
     (record {
@@ -70,15 +74,21 @@ standing_of tag image seal pool table counts state =
         well_formed = subst (λ (p : Pool). IsWellFormed state.seal.sectors p) state.pool_is state.well_formed;
         matches = subst₂ (λ (p : Pool) (t : TableState). Matches p t) state.pool_is state.table_is state.matches;
         homes = subst (λ (t : TableState). state.seal.homes ≡ length (counted_homes t)) state.table_is state.homes;
-        references = subst (λ (t : TableState). state.seal.counts ≡ sum_by (λ entry. entry.home.count) (counted_homes t)) state.table_is state.references;
+        references = subst (λ (t : TableState). state.seal.counts ≡ sum_by (λ entry. entry.home.count) (counted_homes t)) state.table_is
+            state.references;
         pages = state.pages;
-        pointers_clear = subst (λ (p : Pool). AllByRecursion (λ pointer. IsClear state.flat.named pointer.place) p.pointers) state.pool_is state.pointers_clear;
-        waiting_clear = subst (λ (t : TableState). AllByRecursion (λ entry. IsClear state.flat.named entry.home.place) (waiting_in t)) state.table_is state.waiting_clear;
+        pointers_clear = subst
+            (λ (p : Pool). AllByRecursion (λ pointer. IsClear state.flat.named pointer.place) p.pointers) state.pool_is
+            state.pointers_clear;
+        waiting_clear = subst
+            (λ (t : TableState). AllByRecursion (λ entry. IsClear state.flat.named entry.home.place) (waiting_in t)) state.table_is
+            state.waiting_clear;
       };
     })
 
 -- so where nothing stands under it, the image is damaged
-pub is_damaged : (tag : ℕ) (image : Image) (seal : Seal) → newest image_version image ≡ Some seal → ((flat : Flat) → IsStanding tag image seal flat → ⊥) → IsDamaged tag image
+pub is_damaged : (tag : ℕ) (image : Image) (seal : Seal) → newest image_version image ≡ Some seal
+    → ((flat : Flat) → IsStanding tag image seal flat → ⊥) → IsDamaged tag image
 is_damaged tag image seal counts none = record {
   sealed = λ no_seal. clash (sym no_seal ∙ counts);
   no_pool = λ pool table state. none state.flat (standing_of tag image seal pool table counts state);
@@ -91,26 +101,32 @@ is_damaged tag image seal counts none = record {
 
 module _ (tag : ℕ) (seal : Seal) where
   -- where no parts can be read, nothing stands
-  pub unread : (told : Option Image) → IfSome told (λ image. (flat : Flat) → IsRead image seal flat → ⊥) → IfSome told (λ image. (flat : Flat) → IsStanding tag image seal flat → ⊥)
+  pub unread : (told : Option Image) → IfSome told (λ image. (flat : Flat) → IsRead image seal flat → ⊥)
+      → IfSome told (λ image. (flat : Flat) → IsStanding tag image seal flat → ⊥)
   unread None none = tt
   unread (Some image) none = λ flat standing. none flat standing.read
 
   -- nor where the parts that were read break a rule
-  pub broken : (told : Option Image) (flat : Flat) (found : Option Held) → IfSome told (λ image. IsRead image seal flat) → found ≡ None → IfNone found (HoldTogether seal flat → (image : Image) → IsWhole image seal flat → ⊥)
+  pub broken : (told : Option Image) (flat : Flat) (found : Option Held) → IfSome told (λ image. IsRead image seal flat) → found ≡ None
+      → IfNone found (HoldTogether seal flat → (image : Image) → IsWhole image seal flat → ⊥)
       → IfSome told (λ image. (other : Flat) → IsStanding tag image seal other → ⊥)
   broken None flat found read none judged = tt
   broken (Some image) flat found read none judged = λ other standing.
       let same : other ≡ flat = one_flat image seal other flat standing.read read in
-      let breaks : HoldTogether seal flat → (image : Image) → IsWhole image seal flat → ⊥ = subst (λ (o : Option Held). IfNone o (HoldTogether seal flat → (image : Image) → IsWhole image seal flat → ⊥)) none judged in
-      breaks (subst (λ (f : Flat). HoldTogether seal f) same standing.together) image (subst (λ (f : Flat). IsWhole image seal f) same standing.whole)
+      let breaks : HoldTogether seal flat → (image : Image) → IsWhole image seal flat
+      → ⊥ = subst (λ (o : Option Held). IfNone o (HoldTogether seal flat → (image : Image) → IsWhole image seal flat → ⊥)) none judged in
+      breaks (subst (λ (f : Flat). HoldTogether seal f) same standing.together) image
+      (subst (λ (f : Flat). IsWhole image seal f) same standing.whole)
 
   -- so the image is damaged, where this is the seal that counts
-  pub damaged_by : (told : Option Image) (found : Option Seal) → IfSome told (λ image. found ≡ newest image_version image) → found ≡ Some seal → IfSome told (λ image. (flat : Flat) → IsStanding tag image seal flat → ⊥) → IfSome told (IsDamaged tag)
+  pub damaged_by : (told : Option Image) (found : Option Seal) → IfSome told (λ image. found ≡ newest image_version image)
+      → found ≡ Some seal → IfSome told (λ image. (flat : Flat) → IsStanding tag image seal flat → ⊥) → IfSome told (IsDamaged tag)
   damaged_by None found counts is none = tt
   damaged_by (Some image) found counts is none = is_damaged tag image seal (sym counts ∙ is) none
 
   -- and else it stands for the pool that was made
-  pub held_by : (told : Option Image) (found : Option Seal) (held : Held) → IfSome told (λ image. found ≡ newest image_version image) → found ≡ Some seal → IfSome told (λ image. IsMadeOf tag image seal held)
+  pub held_by : (told : Option Image) (found : Option Seal) (held : Held) → IfSome told (λ image. found ≡ newest image_version image)
+      → found ≡ Some seal → IfSome told (λ image. IsMadeOf tag image seal held)
       → IfSome told (λ image. (pool : Pool) × (table : TableState) × IsHeld image held pool table)
   held_by None found held counts is made = tt
   held_by (Some image) found held counts is made = is_held tag image seal held (sym counts ∙ is) made

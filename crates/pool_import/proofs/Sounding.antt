@@ -58,7 +58,8 @@ sound_of tag disk_sectors seal flat held formed slots lengths made =
       first = numbers.first;
       last = numbers.last;
       used_len = ap length (made.used_are []) ∙ length-used_sectors seal.sectors flat.named (pool_in [] seal flat) (table_in seal flat);
-      ring = λ sector first. ap (λ used. slice_index_or used sector true) (made.used_are []) ∙ ring_is_used seal.sectors flat.named (pool_in [] seal flat) (table_in seal flat) sector first;
+      ring = λ sector first. ap (λ used. slice_index_or used sector true) (made.used_are [])
+          ∙ ring_is_used seal.sectors flat.named (pool_in [] seal flat) (table_in seal flat) sector first;
       slots_within = slots;
       slots_rising = made.together.slots_rising;
       sorted = is_table_in seal flat made.together;
@@ -81,7 +82,8 @@ sound_of tag disk_sectors seal flat held formed slots lengths made =
         )
 
 -- and has no more sectors than the disk
-pub no_larger : (tag disk_sectors sectors : ℕ) (seal : Seal) (flat : Flat) (held : Held) → is_formed tag disk_sectors seal ≡ true → disk_sectors ≡ sectors → IsMade tag seal flat held → held.sectors ≤ sectors
+pub no_larger : (tag disk_sectors sectors : ℕ) (seal : Seal) (flat : Flat) (held : Held) → is_formed tag disk_sectors seal ≡ true
+    → disk_sectors ≡ sectors → IsMade tag seal flat held → held.sectors ≤ sectors
 no_larger tag disk_sectors sectors seal flat held formed same made =
     let numbers : HasNumbers disk_sectors seal = numbers_of tag disk_sectors seal formed in
     subst₂ (λ (h : Held) n. h.sectors ≤ n) (sym made.held_is) same numbers.on_disk

@@ -23,7 +23,8 @@ use Rattle.pool_import.specs.Together.{is_within, is_change_within, rises, has_l
 use Rattle.table_state.proofs.SlotsAfter.{stands_through}
 
 -- a test of each item
-all_decided : {X : Type 0} (p : X → Bool) (P : X → Type 0) → ((x : X) → Decides (p x) (P x)) → (xs : List X) → Decides (list_all p xs) (AllByRecursion P xs)
+all_decided : {X : Type 0} (p : X → Bool) (P : X → Type 0) → ((x : X) → Decides (p x) (P x)) → (xs : List X)
+    → Decides (list_all p xs) (AllByRecursion P xs)
 all_decided p P each [] = (λ e. tt, λ e. refl)
 all_decided p P each (x ∷ xs) = Decides-and (p x) (list_all p xs) (each x) (all_decided p P each xs)
 
@@ -35,9 +36,13 @@ is_within-Decides sectors group entry =
     Decides-like (is_within sectors group entry)
     (λ h. record { place = h.0.0.0.0.0; on_disk = h.0.0.0.0.1; born = h.0.0.0.1; birth = h.0.0.1; since = h.0.1; count = h.1 })
     (λ h. (((((h.place, h.on_disk), h.born), h.birth), h.since), h.count))
-    (Decides-and _ _ (Decides-and _ _ (Decides-and _ _ (Decides-and _ _ (Decides-and _ _ (Decides-leb 32 entry.home.place) (Decides-ltb entry.home.place sectors)) (Decides-leb 1 entry.home.birth)) (Decides-leb entry.home.birth group)) (Decides-ltb entry.home.since 1099511627776)) (Decides-leb entry.home.count 1048576))
+    (Decides-and _ _ (Decides-and _ _
+    (Decides-and _ _ (Decides-and _ _ (Decides-and _ _ (Decides-leb 32 entry.home.place) (Decides-ltb entry.home.place sectors))
+    (Decides-leb 1 entry.home.birth)) (Decides-leb entry.home.birth group)) (Decides-ltb entry.home.since 1099511627776))
+    (Decides-leb entry.home.count 1048576))
 
-is_change_within-Decides : (sectors group : ℕ) (change : Change) → Decides (is_change_within sectors group change) (IsChangeWithin sectors group change)
+is_change_within-Decides : (sectors group : ℕ) (change : Change)
+    → Decides (is_change_within sectors group change) (IsChangeWithin sectors group change)
 is_change_within-Decides sectors group (changes.Entry entry) = is_within-Decides sectors group entry
 is_change_within-Decides sectors group (changes.Gone key) = (λ e. tt, λ e. refl)
 
@@ -98,27 +103,46 @@ hold_together-Decides seal flat =
     (λ h. (((((((h.pages_within, h.unique_within), h.duplicate_within), h.active_within), h.flushing_within), ((h.slots_rising, h.unique_rising), h.duplicate_rising)), ((h.counted_once, h.counted_more), h.one_class)), (h.active_changes, h.flushing_changes)))
     (Decides-and _ _ (Decides-and _ _ (Decides-and _ _ within sorted) classes) counted)
   where
-    entries_within : (entries : List Entry) → Decides (list_all (is_within seal.sectors seal.group) entries) (AllByRecursion (IsWithin seal.sectors seal.group) entries)
-    entries_within entries = all_decided (is_within seal.sectors seal.group) (IsWithin seal.sectors seal.group) (is_within-Decides seal.sectors seal.group) entries
+    entries_within : (entries : List Entry)
+        → Decides (list_all (is_within seal.sectors seal.group) entries) (AllByRecursion (IsWithin seal.sectors seal.group) entries)
+    entries_within entries = all_decided (is_within seal.sectors seal.group) (IsWithin seal.sectors seal.group)
+        (is_within-Decides seal.sectors seal.group) entries
 
-    log_within : (log : List Change) → Decides (list_all (is_change_within seal.sectors seal.group) log) (AllByRecursion (IsChangeWithin seal.sectors seal.group) log)
-    log_within log = all_decided (is_change_within seal.sectors seal.group) (IsChangeWithin seal.sectors seal.group) (is_change_within-Decides seal.sectors seal.group) log
+    log_within : (log : List Change)
+        → Decides (list_all (is_change_within seal.sectors seal.group) log) (AllByRecursion (IsChangeWithin seal.sectors seal.group) log)
+    log_within log = all_decided (is_change_within seal.sectors seal.group) (IsChangeWithin seal.sectors seal.group)
+        (is_change_within-Decides seal.sectors seal.group) log
 
-    within : Decides (are_within seal flat) ((((AllByRecursion (λ sector. sector < seal.sectors) flat.named × AllByRecursion (IsWithin seal.sectors seal.group) flat.unique) × AllByRecursion (IsWithin seal.sectors seal.group) flat.duplicate) × AllByRecursion (IsChangeWithin seal.sectors seal.group) flat.active) × AllByRecursion (IsChangeWithin seal.sectors seal.group) flat.flushing)
+    within : Decides (are_within seal flat)
+        ((((AllByRecursion (λ sector. sector < seal.sectors) flat.named × AllByRecursion (IsWithin seal.sectors seal.group) flat.unique)
+        × AllByRecursion (IsWithin seal.sectors seal.group) flat.duplicate)
+        × AllByRecursion (IsChangeWithin seal.sectors seal.group) flat.active)
+        × AllByRecursion (IsChangeWithin seal.sectors seal.group) flat.flushing)
     within =
         Decides-and _ _ (Decides-and _ _ (Decides-and _ _ (Decides-and _ _
-        (all_decided (λ sector. nat_lt sector seal.sectors) (λ sector. sector < seal.sectors) (λ sector. Decides-ltb sector seal.sectors) flat.named)
+        (all_decided (λ sector. nat_lt sector seal.sectors) (λ sector. sector < seal.sectors)
+        (λ sector. Decides-ltb sector seal.sectors) flat.named)
         (entries_within flat.unique)) (entries_within flat.duplicate)) (log_within flat.active)) (log_within flat.flushing)
 
-    sorted : Decides (are_sorted flat) ((Pairwise (λ a b. stands_before a b ≡ true) flat.slots × AreRising flat.unique) × AreRising flat.duplicate)
-    sorted = Decides-and _ _ (Decides-and _ _ (rises-Decides stands_before stands_through flat.slots) (rises-Decides has_lower_key keys_onward flat.unique)) (rises-Decides has_lower_key keys_onward flat.duplicate)
+    sorted : Decides (are_sorted flat)
+        ((Pairwise (λ a b. stands_before a b ≡ true) flat.slots × AreRising flat.unique) × AreRising flat.duplicate)
+    sorted = Decides-and _ _
+        (Decides-and _ _ (rises-Decides stands_before stands_through flat.slots) (rises-Decides has_lower_key keys_onward flat.unique))
+        (rises-Decides has_lower_key keys_onward flat.duplicate)
 
-    classes : Decides (are_classes flat) ((AllByRecursion (λ (entry : Entry). entry.home.count ≡ 1) flat.unique × AllByRecursion (λ (entry : Entry). 1 < entry.home.count) flat.duplicate) × AllByRecursion (λ (entry : Entry). entry_at entry.key flat.duplicate ≡ None) flat.unique)
+    classes : Decides (are_classes flat)
+        ((AllByRecursion (λ (entry : Entry). entry.home.count ≡ 1) flat.unique
+        × AllByRecursion (λ (entry : Entry). 1 < entry.home.count) flat.duplicate)
+        × AllByRecursion (λ (entry : Entry). entry_at entry.key flat.duplicate ≡ None) flat.unique)
     classes =
         Decides-and _ _ (Decides-and _ _
-        (all_decided (λ (entry : Entry). entry.home.count == 1) (λ entry. entry.home.count ≡ 1) (λ entry. Decides-eqb entry.home.count 1) flat.unique)
-        (all_decided (λ (entry : Entry). nat_lt 1 entry.home.count) (λ entry. 1 < entry.home.count) (λ entry. Decides-ltb 1 entry.home.count) flat.duplicate))
-        (all_decided (is_elsewhere flat.duplicate) (λ entry. entry_at entry.key flat.duplicate ≡ None) (λ entry. is_none-Decides (entry_at entry.key flat.duplicate)) flat.unique)
+        (all_decided (λ (entry : Entry). entry.home.count == 1) (λ entry. entry.home.count ≡ 1)
+        (λ entry. Decides-eqb entry.home.count 1) flat.unique)
+        (all_decided (λ (entry : Entry). nat_lt 1 entry.home.count) (λ entry. 1 < entry.home.count)
+        (λ entry. Decides-ltb 1 entry.home.count) flat.duplicate))
+        (all_decided (is_elsewhere flat.duplicate) (λ entry. entry_at entry.key flat.duplicate ≡ None)
+        (λ entry. is_none-Decides (entry_at entry.key flat.duplicate)) flat.unique)
 
     counted : Decides (are_counted seal flat) ((seal.active_changes ≡ length flat.active) × (seal.flushing_changes ≡ length flat.flushing))
-    counted = Decides-and _ _ (Decides-eqb seal.active_changes (length flat.active)) (Decides-eqb seal.flushing_changes (length flat.flushing))
+    counted = Decides-and _ _ (Decides-eqb seal.active_changes (length flat.active))
+        (Decides-eqb seal.flushing_changes (length flat.flushing))

@@ -38,7 +38,8 @@ counts_for key spot = spot.tracked && key_eq spot.key key
 
 -- whether a seal's sums are right, for these homes and so many pages
 abbrev pub sums_agree : Seal → List Entry → (pages : ℕ) → Bool
-sums_agree seal homes pages = (seal.homes == length homes) && (seal.counts == sum_by (λ entry. entry.home.count) homes) && (seal.pages == pages)
+sums_agree seal homes
+    pages = (seal.homes == length homes) && (seal.counts == sum_by (λ entry. entry.home.count) homes) && (seal.pages == pages)
 
 -- whether a home's count is the number of pointers that are counted under its key
 abbrev pub is_counted : List Spot → Entry → Bool

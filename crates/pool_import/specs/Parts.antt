@@ -18,7 +18,8 @@ ReadsSlots sectors group image before root after slots =
 -- a chain that spells these entries
 abbrev pub ReadsEntries : Image → (before : List ℕ) → Option PagePtr → (after : List ℕ) → List Entry → Type 0
 ReadsEntries image before root after entries =
-    (records : List (List ℕ)) × Reads image before root after records × (map change_in records ≡ map (λ entry. Ok (changes.Entry entry)) entries)
+    (records : List (List ℕ)) × Reads image before root after records
+    × (map change_in records ≡ map (λ entry. Ok (changes.Entry entry)) entries)
 
 -- a chain that spells these changes
 abbrev pub ReadsChanges : Image → (before : List ℕ) → Option PagePtr → (after : List ℕ) → List Change → Type 0

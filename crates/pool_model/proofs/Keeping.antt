@@ -72,7 +72,8 @@ module _ (p : Pointer) (ps : List Pointer) (left later : Key → Option Home)
       → IsKept sectors number unnamed given ps left → CanJoin sectors number unnamed more ps left p
       → IsKept sectors number unnamed more (insert_pointer p ps) later
   put_kept sectors number unnamed given more longer kept joins = record {
-    rising = rising_insert p ps (all_from (GoTogether p) (λ q. is_at p.lane p.slot q ≡ false) (λ q together. together.slots) ps joins.together)
+    rising = rising_insert p ps
+        (all_from (GoTogether p) (λ q. is_at p.lane p.slot q ≡ false) (λ q together. together.slots) ps joins.together)
         kept.rising;
     pairs = pairs_insert GoTogether together_turned p ps joins.together kept.pairs;
     within = all_insert (LiesWithin sectors number) p ps joins.within kept.within;

@@ -94,7 +94,8 @@ pub all_fail : (test : Pointer → Bool) (ps : List Pointer) → filter test ps 
 all_fail test [] none = tt
 all_fail test (q ∷ qs) none = by_test (test q) (all_fail test qs) none
   where
-    by_test : (b : Bool) → (filter test qs ≡ [] → AllByRecursion (λ r. test r ≡ false) qs) → cond b (q ∷ filter test qs) (filter test qs) ≡ []
+    by_test : (b : Bool) → (filter test qs ≡ [] → AllByRecursion (λ r. test r ≡ false) qs)
+        → cond b (q ∷ filter test qs) (filter test qs) ≡ []
         → (b ≡ false) × AllByRecursion (λ r. test r ≡ false) qs
     by_test true rest e = absurd (cc e)
     by_test false rest e = (refl, rest e)

@@ -26,7 +26,8 @@ length-fold : (keys more : List Key) → length (fold (λ sorted key. with_key k
 length-fold keys [] = omega arith
 length-fold keys (k ∷ ks) = omega (arith, length-fold (with_key k keys) ks, length-with_key k keys)
 
-fold-every : (P : Key → Type 0) (keys more : List Key) → AllByRecursion P keys → AllByRecursion P more → AllByRecursion P (fold (λ sorted key. with_key key sorted) keys more)
+fold-every : (P : Key → Type 0) (keys more : List Key) → AllByRecursion P keys → AllByRecursion P more
+    → AllByRecursion P (fold (λ sorted key. with_key key sorted) keys more)
 fold-every P keys [] all each = all
 fold-every P keys (k ∷ ks) all each = fold-every P (with_key k keys) ks (All-with_key P k keys each.0 all) each.1
 
@@ -55,11 +56,14 @@ AreFew-key_counts references small =
     let tracked : Reference → Bool = λ reference. is_tracked reference.standing in
     let few : length keys ≤ 1048576 = length-tracked_keys references small in
     let each : All (λ (key : Key). key.len ≤ 4096) keys =
-    All-map (λ (key : Key). key.len ≤ 4096) (λ (reference : Reference). reference.key) (filter tracked references) (All-filter tracked (λ (reference : Reference). reference.key.len ≤ 4096) references small.short)
+    All-map (λ (key : Key). key.len ≤ 4096) (λ (reference : Reference). reference.key) (filter tracked references)
+    (All-filter tracked (λ (reference : Reference). reference.key.len ≤ 4096) references small.short)
     in
     let short : All (λ (key : Key). key.len ≤ 4096) (sorted_keys keys) = All-sorted_keys (λ (key : Key). key.len ≤ 4096) keys each in
     let low : All (λ (key : Key). key.len * count_of keys key ≤ 4294967296) (sorted_keys keys) =
-    All-weaker (λ (key : Key). key.len ≤ 4096) (λ (key : Key). key.len * count_of keys key ≤ 4294967296) (λ key h. product_bound key.len (count_of keys key) h (omega (arith, few, count_by-le-length (λ (k : Key). key_eq k key) keys))) (sorted_keys keys) short
+    All-weaker (λ (key : Key). key.len ≤ 4096) (λ (key : Key). key.len * count_of keys key ≤ 4294967296)
+    (λ key h. product_bound key.len (count_of keys key) h (omega (arith, few, count_by-le-length (λ (k : Key). key_eq k key) keys)))
+    (sorted_keys keys) short
     in
     record {
       few = omega (arith, few, length-images counted (sorted_keys keys), length-fold [] keys);

@@ -13,7 +13,8 @@ count_by-map p g xs = sum_by-map (λ y. cond (p y) 1 0) g xs
 pub filter-map : {X Y : Type 0} (p : Y → Bool) (g : X → Y) (xs : List X) → filter p (map g xs) ≡ map g (filter (λ x. p (g x)) xs)
 filter-map p g [] = refl
 filter-map p g (x ∷ xs) =
-    elim (p (g x)) as (λ b. cond b (g x ∷ filter p (map g xs)) (filter p (map g xs)) ≡ map g (cond b (x ∷ filter (λ x. p (g x)) xs) (filter (λ x. p (g x)) xs)))
+    elim (p (g x)) as (λ b. cond b (g x ∷ filter p (map g xs)) (filter p (map g xs)) ≡ map g
+    (cond b (x ∷ filter (λ x. p (g x)) xs) (filter (λ x. p (g x)) xs)))
     [ true ↦ ap (λ ys. g x ∷ ys) (filter-map p g xs) | false ↦ filter-map p g xs ]
 
 -- none of a list is counted where none passes

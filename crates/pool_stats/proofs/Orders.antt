@@ -48,7 +48,8 @@ rising-nil = tt
 
 -- what comes behind a later key comes behind an earlier one
 behind_before : (a b : Key) (keys : List Key) → key_cmp a b ≡ Less → AreBehind b keys → AreBehind a keys
-behind_before a b keys less behind = all_from (λ k. key_cmp b k ≡ Less) (λ k. key_cmp a k ≡ Less) (λ k h. key_cmp_total.trans a b k less h) keys behind
+behind_before a b keys less behind = all_from (λ k. key_cmp b k ≡ Less) (λ k. key_cmp a k ≡ Less)
+    (λ k h. key_cmp_total.trans a b k less h) keys behind
 
 -- a key isn't among those behind it
 pub has-behind : (key : Key) (keys : List Key) → AreBehind key keys → has keys key ≡ false
@@ -65,10 +66,13 @@ All-with_key P key (k ∷ ks) here all =
 rising-with_key : (key : Key) (keys : List Key) → AreRising keys → AreRising (with_key key keys)
 rising-with_key key [] rising = rising-cons key [] tt rising-nil
 rising-with_key key (k ∷ ks) rising =
-    (elim (key_cmp key k) as (λ o. key_cmp key k ≡ o → AreRising (if is_lt o then key ∷ k ∷ ks else (if is_eq o then k ∷ ks else k ∷ with_key key ks))) [
+    (elim (key_cmp key k) as
+    (λ o. key_cmp key k ≡ o → AreRising (if is_lt o then key ∷ k ∷ ks else (if is_eq o then k ∷ ks else k ∷ with_key key ks))) [
       | Less ↦ λ e. rising-cons key (k ∷ ks) (e, behind_before key k ks e (rising-behind k ks rising)) rising
       | Equal ↦ λ e. rising
-      | Greater ↦ λ e. rising-cons k (with_key key ks) (All-with_key (λ q. key_cmp k q ≡ Less) key ks (turned key k e) (rising-behind k ks rising)) (rising-with_key key ks (rising-tail k ks rising))
+      | Greater ↦ λ e. rising-cons k (with_key key ks)
+          (All-with_key (λ q. key_cmp k q ≡ Less) key ks (turned key k e) (rising-behind k ks rising))
+          (rising-with_key key ks (rising-tail k ks rising))
     ])
     refl
 
@@ -93,7 +97,10 @@ swapped false false c = refl
 has-with_key : (key : Key) (keys : List Key) (q : Key) → has (with_key key keys) q ≡ (key_eq key q || has keys q)
 has-with_key key [] q = refl
 has-with_key key (k ∷ ks) q =
-    (elim (key_cmp key k) as (λ o. key_cmp key k ≡ o → has (if is_lt o then key ∷ k ∷ ks else (if is_eq o then k ∷ ks else k ∷ with_key key ks)) q ≡ (key_eq key q || (key_eq k q || has ks q))) [
+    (elim (key_cmp key k) as
+    (λ o. key_cmp key k ≡ o
+    → has (if is_lt o then key ∷ k ∷ ks else (if is_eq o then k ∷ ks else k ∷ with_key key ks))
+    q ≡ (key_eq key q || (key_eq k q || has ks q))) [
       | Less ↦ λ e. refl
       | Equal ↦ λ e. twice (key_eq k q) (has ks q) ∙ ap (λ (x : Key). key_eq x q || (key_eq k q || has ks q)) (sym (exact_keys key k e))
       | Greater ↦ λ e. ap (λ b. key_eq k q || b) (has-with_key key ks q) ∙ swapped (key_eq key q) (key_eq k q) (has ks q)
@@ -130,10 +137,12 @@ has-before : (key k : Key) (ks : List Key) → key_cmp key k ≡ Less → AreRis
 has-before key k ks less rising = has-behind key (k ∷ ks) (less, behind_before key k ks less (rising-behind k ks rising))
 
 -- behind an equal first key, the rest has the same
-same_rest : (a : Key) (xs ys : List Key) → AreBehind a xs → AreBehind a ys → ((q : Key) → has (a ∷ xs) q ≡ has (a ∷ ys) q) → (q : Key) → has xs q ≡ has ys q
+same_rest : (a : Key) (xs ys : List Key) → AreBehind a xs → AreBehind a ys → ((q : Key) → has (a ∷ xs) q ≡ has (a ∷ ys) q) → (q : Key)
+    → has xs q ≡ has ys q
 same_rest a xs ys before_xs before_ys same q =
     (elim (key_eq a q) as (λ b. key_eq a q ≡ b → (b || has xs q) ≡ (b || has ys q) → has xs q ≡ has ys q) [
-      | true ↦ λ e h. let P : Key → Type 0 = λ k. has xs k ≡ has ys k in subst P (key_eq-true a q e) (has-behind a xs before_xs ∙ sym (has-behind a ys before_ys))
+      | true ↦ λ e h. let P : Key
+          → Type 0 = λ k. has xs k ≡ has ys k in subst P (key_eq-true a q e) (has-behind a xs before_xs ∙ sym (has-behind a ys before_ys))
       | false ↦ λ e h. h
     ])
     refl (same q)
@@ -150,7 +159,9 @@ rising_one (x ∷ xs) (y ∷ ys) rising_xs rising_ys same =
           let one : x ≡ y = exact_keys x y e in
           let P : Key → Type 0 = λ k. AreBehind k ys × ((q : Key) → has (x ∷ xs) q ≡ has (k ∷ ys) q) in
           let here : P x = subst P (sym one) (rising-behind y ys rising_ys, same) in
-          ap (λ k. k ∷ xs) one ∙ ap (λ l. y ∷ l) (rising_one xs ys (rising-tail x xs rising_xs) (rising-tail y ys rising_ys) (same_rest x xs ys (rising-behind x xs rising_xs) here.0 here.1))
+          ap (λ k. k ∷ xs) one
+          ∙ ap (λ l. y ∷ l) (rising_one xs ys (rising-tail x xs rising_xs) (rising-tail y ys rising_ys)
+          (same_rest x xs ys (rising-behind x xs rising_xs) here.0 here.1))
       | Greater ↦ λ e. let there = has-first y ys in let none = has-before y x xs (turned x y e) rising_xs in let both = same y in cc
     ])
     refl

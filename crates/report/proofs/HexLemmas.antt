@@ -7,9 +7,11 @@ use Rattle.report.proofs.Written.{Splits}
 encode_with-append : (digits xs ys : List ℕ) → encode_with digits (xs ++ ys) ≡ encode_with digits xs ++ encode_with digits ys
 unfolding encode_with
 encode_with-append digits [] ys = refl
-encode_with-append digits (x ∷ xs) ys = ap (λ l. slice_index digits (x / 16) ∷ slice_index digits (x % 16) ∷ l) (encode_with-append digits xs ys)
+encode_with-append digits (x ∷ xs) ys = ap (λ l. slice_index digits (x / 16) ∷ slice_index digits (x % 16) ∷ l)
+    (encode_with-append digits xs ys)
 
-pub encode_lower-splits : (n : ℕ) (content : List ℕ) → Splits (encode_lower content) (encode_lower (take n content)) (encode_lower (drop n content))
+pub encode_lower-splits : (n : ℕ) (content : List ℕ)
+    → Splits (encode_lower content) (encode_lower (take n content)) (encode_lower (drop n content))
 encode_lower-splits n content =
     record { parts = ap encode_lower (sym (take-append-drop n content)) ∙ encode_with-append lower_digits (take n content) (drop n content) }
 

@@ -21,14 +21,17 @@ abbrev next_text : Bool → Command → (tasks : List Task) → (replies : List 
 next_text own command tasks replies = flat_map command_line (zip (cond own (task_of command ∷ tasks) tasks) replies)
 
 -- a command of the lane, with its answer
-pub answered_text-own : (lane : ℕ) (commands : List Command) (i : ℕ) (command : Command) (answers others : List CommandAnswer) (answer : CommandAnswer)
+pub answered_text-own : (lane : ℕ) (commands : List Command) (i : ℕ) (command : Command) (answers others : List CommandAnswer)
+    (answer : CommandAnswer)
     → i < length commands → command ≡ slice_index_or commands i command → command.lane ≡ lane → answers ≡ answer ∷ others
-    → Splits (answered_text lane (drop i commands) answers) (command_line (task_of command, reply_of answer)) (answered_text lane (drop (i + 1) commands) others)
+    → Splits (answered_text lane (drop i commands) answers) (command_line (task_of command, reply_of answer))
+    (answered_text lane (drop (i + 1) commands) others)
 answered_text-own lane commands i command answers others answer within here own taken =
     let tasks = tasks_of lane (map task_of (drop (i + 1) commands)) in
     record {
       parts =
-          ap (λ l. answered_text lane l answers) (drop_more commands i command within ∙ ap (λ (x : Command). x ∷ drop (i + 1) commands) (sym here))
+          ap (λ l. answered_text lane l answers)
+          (drop_more commands i command within ∙ ap (λ (x : Command). x ∷ drop (i + 1) commands) (sym here))
           ∙ ap (λ l. answered_text lane (command ∷ drop (i + 1) commands) l) taken
           ∙ ap (λ b. next_text b command tasks (reply_of answer ∷ map reply_of others)) (eq-eqb command.lane lane own);
     }
@@ -38,13 +41,18 @@ pub answered_text-other : (lane : ℕ) (commands : List Command) (i : ℕ) (comm
     → i < length commands → command ≡ slice_index_or commands i command → command.lane ≢ lane
     → answered_text lane (drop i commands) answers ≡ answered_text lane (drop (i + 1) commands) answers
 answered_text-other lane commands i command answers within here other =
-    ap (λ l. answered_text lane l answers) (drop_more commands i command within ∙ ap (λ (x : Command). x ∷ drop (i + 1) commands) (sym here))
-    ∙ ap (λ b. next_text b command (tasks_of lane (map task_of (drop (i + 1) commands))) (map reply_of answers)) (ne_eqb command.lane lane other)
+    ap (λ l. answered_text lane l answers)
+    (drop_more commands i command within ∙ ap (λ (x : Command). x ∷ drop (i + 1) commands) (sym here))
+    ∙ ap (λ b. next_text b command (tasks_of lane (map task_of (drop (i + 1) commands))) (map reply_of answers))
+    (ne_eqb command.lane lane other)
 
 -- what is printed of the lanes that are left
-pub lanes-splits : (tasks : List Task) (notes : List LaneNote) (i : ℕ) (note : LaneNote) → i < length notes → note ≡ slice_index_or notes i note
-    → Splits (flat_map (lane_text tasks) (map lane_told (drop i notes))) (lane_text tasks (lane_told note)) (flat_map (lane_text tasks) (map lane_told (drop (i + 1) notes)))
+pub lanes-splits : (tasks : List Task) (notes : List LaneNote) (i : ℕ) (note : LaneNote) → i < length notes
+    → note ≡ slice_index_or notes i note
+    → Splits (flat_map (lane_text tasks) (map lane_told (drop i notes))) (lane_text tasks (lane_told note))
+    (flat_map (lane_text tasks) (map lane_told (drop (i + 1) notes)))
 lanes-splits tasks notes i note within here = record {
   parts =
-      ap (λ l. flat_map (lane_text tasks) (map lane_told l)) (drop_more notes i note within ∙ ap (λ (x : LaneNote). x ∷ drop (i + 1) notes) (sym here));
+      ap (λ l. flat_map (lane_text tasks) (map lane_told l))
+      (drop_more notes i note within ∙ ap (λ (x : LaneNote). x ∷ drop (i + 1) notes) (sym here));
 }

@@ -23,11 +23,13 @@ joined_text-first (word ∷ words) default some =
     rw others (sym (joined_text-cons word words))
 
 -- one more word behind others
-joined-more : (words : List (List ℕ)) (last : List ℕ) → 0 < length words → join_with_byte 32 (words ++ last ∷ []) ≡ join_with_byte 32 words ++ 32 ∷ last
+joined-more : (words : List (List ℕ)) (last : List ℕ) → 0 < length words
+    → join_with_byte 32 (words ++ last ∷ []) ≡ join_with_byte 32 words ++ 32 ∷ last
 joined-more [] last some = absurd (omega arith)
 joined-more (word ∷ []) last some = refl
 joined-more (word ∷ next ∷ words) last some =
-    ap (λ l. word ++ 32 ∷ l) (joined-more (next ∷ words) last (omega arith)) ∙ sym (append_assoc word (32 ∷ join_with_byte 32 (next ∷ words)) (32 ∷ last))
+    ap (λ l. word ++ 32 ∷ l) (joined-more (next ∷ words) last (omega arith))
+    ∙ sym (append_assoc word (32 ∷ join_with_byte 32 (next ∷ words)) (32 ∷ last))
 
 -- a line whose last word is written by itself
 pub joined_text-more : (words : List Word) (last : List ℕ) → 0 < length words

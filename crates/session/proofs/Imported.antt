@@ -23,7 +23,8 @@ abbrev pub IsFoundOver : Option Image → Held → Type 0
 IsFoundOver seen found = IfSome seen (λ image. (pool : Pool) × (table : TableState) × IsHeld image found pool table)
 
 -- it stands where the old one stood
-pub found_over : (tag : ℕ) (old new : DiskState) (held found : Held) (s : Standing) → held.tag ≡ tag → found.tag ≡ tag → IsFoundOver old.seen found
+pub found_over : (tag : ℕ) (old new : DiskState) (held found : Held) (s : Standing) → held.tag ≡ tag → found.tag ≡ tag
+    → IsFoundOver old.seen found
     → IsOver old held s → Stays old.seen new.seen → NothingPending old.seen new.may_leave → IsOver new found s
 found_over tag old new held found s tag_is found_tag_is given over stays quiet =
     let there = subst (λ (o : Option Image). IsFoundOver o found) over.told given in
@@ -50,7 +51,8 @@ same_error : (a b : Status) → IsErrOf {T = Unit {0}} {E = Status} (Err a) b �
 same_error a b same = cc same
 
 -- a fault that isn't damage ends a session whose disk tells its contents
-pub fault_ended : (fault : SyncFault) (answer status : Status) → answer ≡ status_of fault → IsErrOf {T = Unit {0}} {E = Status} (Err answer) status
+pub fault_ended : (fault : SyncFault) (answer status : Status) → answer ≡ status_of fault
+    → IsErrOf {T = Unit {0}} {E = Status} (Err answer) status
     → ((sector : ℕ) → fault ≡ Damaged sector → ⊥) → may_begin (origin status) ≡ true
 fault_ended fault answer status is same undamaged =
     subst (λ s. may_begin (origin s) ≡ true) (sym is ∙ same_error answer status same) (ended fault undamaged)

@@ -42,7 +42,8 @@ kept written now same = subst (Keeps written) (sym same) (Keeps-refl written)
 
 module _ (devices : Devices) (rules : Rules) (step : RunStep) where
   -- the item was cut, and nothing of it was written
-  ends_cut : (status : Status) → (status ≡ SinkFault → ⊥) → IsCut rules step → Keeps devices.written devices.now → EndsSo status devices rules step
+  ends_cut : (status : Status) → (status ≡ SinkFault → ⊥) → IsCut rules step → Keeps devices.written devices.now
+      → EndsSo status devices rules step
   ends_cut SinkFault other cut unwritten = absurd (other refl)
   ends_cut Done other cut unwritten = (cut, unwritten)
   ends_cut Usage other cut unwritten = (cut, unwritten)
@@ -58,7 +59,8 @@ module _ (devices : Devices) (rules : Rules) (step : RunStep) where
   ends_cut (LastGroup group) other cut unwritten = (cut, unwritten)
 
 -- a group that ended wasn't cut, and what stands after it stands at its number
-ended_at : (o : Outcome) (rules : Rules) (s : Standing) (item : GroupItem) (told : Told) (after : Standing) → DidGroup o rules s item told after
+ended_at : (o : Outcome) (rules : Rules) (s : Standing) (item : GroupItem) (told : Told) (after : Standing)
+    → DidGroup o rules s item told after
     → (stands : Standing → Type 0) (sealed : ℕ) → stands (standing_by (Some o) s after) → (standing_by (Some o) s after).pool.group ≡ sealed
     → StandsAt stands false sealed (s ∷ (if is_begun_by o item told then after ∷ [] else []))
 ended_at Sealed rules s item told after did stands sealed here number = inr (inl (number, inl here))
@@ -67,7 +69,8 @@ ended_at Cut rules s item told after did stands sealed here number = absurd did
 
 -- ---- A group
 
-module _ (devices : Devices) (keying : Keying) (s : Standing) (moment : ℕ) (tasks : List Task) (told : Told) (held : Held) (sealed : ℕ) where
+module _ (devices : Devices) (keying : Keying) (s : Standing) (moment : ℕ) (tasks : List Task) (told : Told) (held : Held)
+    (sealed : ℕ) where
   abbrev rules : Rules
   rules = lanes_in_turn keying
 
@@ -108,17 +111,21 @@ module _ (devices : Devices) (keying : Keying) (s : Standing) (moment : ℕ) (ta
   group_cut status cut other unwritten sealed_is = record {
     begins = refl;
     ends = ends_cut devices rules (group_step s item told cut.after) status other cut.cut unwritten;
-    sealed_is = sealed_is ∙ ap (λ (t : Standing). t.pool.group) (sym (ap (λ (o : Outcome). standing_by (Some o) s cut.after) cut.cut.outcome));
+    sealed_is = sealed_is
+        ∙ ap (λ (t : Standing). t.pool.group) (sym (ap (λ (o : Outcome). standing_by (Some o) s cut.after) cut.cut.outcome));
     crash = cut.crash;
     at_return = λ c left.
-        subst (λ n. StandsAt (Holds keying.tag c) (is_write_fault status) n (s ∷ begun_by (group_step s item told cut.after))) (sym sealed_is) (cut.at_return c left);
+        subst (λ n. StandsAt (Holds keying.tag c) (is_write_fault status) n (s ∷ begun_by (group_step s item told cut.after)))
+        (sym sealed_is) (cut.at_return c left);
   }
 
   -- by how the group ended, and by what was written of it
-  pub group_went : (number before : ℕ) (ended result : Result Unit Status) → GroupWent devices.before devices.after rules s item told held ended
+  pub group_went : (number before : ℕ) (ended result : Result Unit Status)
+      → GroupWent devices.before devices.after rules s item told held ended
       → OnOk ended (held.tag ≡ keying.tag) → number ≡ held.group → before ≡ s.pool.group → (ended ≡ Err SinkFault → ⊥)
       → TellsGroup ended number before sealed
-      (Wrote devices.written devices.now devices.sink_before devices.sink_now (noted_text item (Some told)) result) (devices.now ≡ devices.written) result
+      (Wrote devices.written devices.now devices.sink_before devices.sink_now (noted_text item (Some told)) result)
+      (devices.now ≡ devices.written) result
       → ItemWent devices rules s (of_group item) (told ∷ []) held sealed result
   group_went number before (Ok done) (Ok written) went tag_is number_is before_is device tells =
       (group_step s item told went.after, refl, refl, group_done went tag_is (tells.0 ∙ number_is) tells.1.all)
@@ -169,7 +176,8 @@ module _ (devices : Devices) (rules : Rules) (s : Standing) (held : Held) (seale
 
   module _ (part : Part) (is : IsPlain part) where
     crash_here : LeavesOnly devices.before devices.after (λ c. AnyStands (Holds rules.keying.tag c) (s ∷ begun_by (plain_step part)))
-    crash_here = subst (λ (b : List Standing). LeavesOnly devices.before devices.after (λ c. AnyStands (Holds rules.keying.tag c) (s ∷ b))) (sym (begins_none part)) crash
+    crash_here = subst (λ (b : List Standing). LeavesOnly devices.before devices.after (λ c. AnyStands (Holds rules.keying.tag c) (s ∷ b)))
+        (sym (begins_none part)) crash
 
     -- it was done
     pub plain_done : IsOver devices.after held s → Appends devices.written devices.now (item_text part None s.pool)
@@ -207,7 +215,8 @@ module _ (devices : Devices) (rules : Rules) (s : Standing) (held : Held) (seale
     )
 
     -- the session ended before its text
-    pub plain_stopped : (status : Status) → (status ≡ SinkFault → ⊥) → ((c : Image) → devices.after.may_leave c → Holds rules.keying.tag c s)
+    pub plain_stopped : (status : Status) → (status ≡ SinkFault → ⊥)
+        → ((c : Image) → devices.after.may_leave c → Holds rules.keying.tag c s)
         → Keeps devices.written devices.now → ItemWent devices rules s part [] held sealed (Err status)
     plain_stopped status other holds unwritten = (
       plain_step part,

@@ -110,7 +110,8 @@ module _ (tag : ℕ) (image : Image) (old : DiskState) where
 
   -- before a pool was begun nothing was changed
   pub made_behind : (mid new : DiskState) (result : Result Held Status) → LeavesOnly old mid old.may_leave
-      → ((c : Image) → mid.may_leave c → old.may_leave c) → NothingPending (Some image) mid.may_leave → Makes mid new tag image result → Makes old new tag image result
+      → ((c : Image) → mid.may_leave c → old.may_leave c) → NothingPending (Some image) mid.may_leave → Makes mid new tag image result
+      → Makes old new tag image result
   made_behind mid new (Ok held) run no_more quiet made = record {
     none = made.none;
     lawful = made.lawful;
@@ -190,7 +191,8 @@ module _ (tag sectors : ℕ) (image : Image) (old new : DiskState) (told : old.s
     may_stand = inr (refl, none, lawful);
     any_moment = while_made (run pending);
     at_return = λ c left.
-        ⊎_elim (λ same. inl same) (λ any. ⊎_elim (λ holds. inr (refl, holds)) (λ no. absurd no) any) (at_end (while_made (run pending)) here c left);
+        ⊎_elim (λ same. inl same) (λ any. ⊎_elim (λ holds. inr (refl, holds)) (λ no. absurd no) any)
+        (at_end (while_made (run pending)) here c left);
   }
   not_made (syncs.Damaged sector) here run before unread unwritten whole pending = absurd (whole sector refl)
   not_made syncs.Memory here run before unread unwritten whole pending = record {

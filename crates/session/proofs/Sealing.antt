@@ -66,10 +66,12 @@ not_body : (at number : ℕ) → 32 ≤ at → at ≢ body_sector (slot_of numbe
 not_body at number behind e = absurd (omega (arith, behind, e, mod-lt number {m = 16} (omega arith)))
 
 -- what waits after a group has its block in each image that its sync may leave
-waits_later : (image c : Image) (held : Held) (after : Standing) → KeepsWaiting image held after → KeepsNamed held image c → WaitingStand c after
+waits_later : (image c : Image) (held : Held) (after : Standing) → KeepsWaiting image held after → KeepsNamed held image c
+    → WaitingStand c after
 waits_later image c held after keeps only key home is_found none =
     let kept = keeps key home is_found none in
-    kept.2 ∙ ap (take key.len) (sym (only home.place (not_gate home.place (held.group + 1) kept.1) (not_body home.place (held.group + 1) kept.1) kept.0))
+    kept.2 ∙ ap (take key.len)
+    (sym (only home.place (not_gate home.place (held.group + 1) kept.1) (not_body home.place (held.group + 1) kept.1) kept.0))
 
 -- ---- The group's note
 
@@ -89,7 +91,8 @@ abbrev lacking : (left : ℕ) → (pages : List ℕ) → TableState → List Tas
 lacking left pages table tasks = space_lacking left (need (length pages) (flush_limit table) (changes_in tasks) (writes_in tasks))
 
 pub same_lacking : (image : Image) (held : Held) (s : Standing) (tasks : List Task) → StandsOver image held s
-    → lacking (count_by not held.used) held.pages held.table tasks ≡ lacking (free_count s.sectors s.pages s.pool s.table) s.pages s.table tasks
+    → lacking (count_by not held.used) held.pages held.table tasks ≡ lacking
+    (free_count s.sectors s.pages s.pool s.table) s.pages s.table tasks
 same_lacking image held s tasks over =
     ap (λ used. lacking (count_by not used) held.pages held.table tasks) over.is_held.used_are
     ∙ ap (λ table. lacking (free_count held.sectors held.pages s.pool s.table) held.pages table tasks) over.is_held.table_is
@@ -97,9 +100,11 @@ same_lacking image held s tasks over =
     ∙ ap (λ sectors. lacking (free_count sectors s.pages s.pool s.table) s.pages s.table tasks) over.sectors
 
 -- a run can be synced over what the disk still tells
-pub can_over : (keying : Keying) (old mid : Option Image) (held : Held) (moment : ℕ) (tasks : List Task) (told : Told) (closed : PlainClosed)
+pub can_over : (keying : Keying) (old mid : Option Image) (held : Held) (moment : ℕ) (tasks : List Task) (told : Told)
+    (closed : PlainClosed)
     → (old ≡ None → mid ≡ None) → Stays old mid → StandsForTold old held
-    → ((image : Image) (s : Standing) → old ≡ Some image → StandsOver image held s → IsRunFrom (lanes_in_turn keying) image held s moment tasks told closed)
+    → ((image : Image) (s : Standing) → old ≡ Some image → StandsOver image held s
+    → IsRunFrom (lanes_in_turn keying) image held s moment tasks told closed)
     → CanSyncOver mid held closed
 can_over keying None mid held moment tasks told closed untold stays stands run =
     subst (λ (o : Option Image). CanSyncOver o held closed) (sym (untold refl)) tt
@@ -107,7 +112,8 @@ can_over keying (Some image) mid held moment tasks told closed untold stays (poo
     subst (λ (o : Option Image). CanSyncOver o held closed) (sym stays)
     (run image (standing_over image held pool table) refl (stands_as_held image held pool table is)).can_sync
 
-module _ (keying : Keying) (old new : DiskState) (held : Held) (s : Standing) (moment : ℕ) (tasks : List Task) (told : Told) (closed : PlainClosed)
+module _ (keying : Keying) (old new : DiskState) (held : Held) (s : Standing) (moment : ℕ) (tasks : List Task) (told : Told)
+    (closed : PlainClosed)
     (ran : HasRunOver keying old held s moment tasks told closed) where
   abbrev rules : Rules
   rules = lanes_in_turn keying
@@ -122,11 +128,13 @@ module _ (keying : Keying) (old new : DiskState) (held : Held) (s : Standing) (m
   stood = ran.over.stands
 
   -- what a sync leaves of the group holds what stands after the run
-  after_holds : (pages : List ℕ) (c : Image) → KeepsNamed held ran.over.image c → Holds held.tag c (standing_with ran.over.image held closed pages)
+  after_holds : (pages : List ℕ) (c : Image) → KeepsNamed held ran.over.image c
+      → Holds held.tag c (standing_with ran.over.image held closed pages)
       → Holds keying.tag c (after pages)
   after_holds pages c only holds =
       subst (λ t. Holds t c (after pages)) ran.tag_is
-      (moved held.tag c (standing_with ran.over.image held closed pages) (after pages) (ran.run.pool_is ran.no_clash) ran.run.table_is stood.sectors refl
+      (moved held.tag c (standing_with ran.over.image held closed pages) (after pages)
+      (ran.run.pool_is ran.no_clash) ran.run.table_is stood.sectors refl
       (waits_later ran.over.image c held (after pages) ran.run.waiting only) holds)
 
   before_holds : (c : Image) → Holds held.tag c s → Holds keying.tag c s
@@ -189,7 +197,8 @@ module _ (keying : Keying) (old new : DiskState) (held : Held) (s : Standing) (m
       still = subst (λ (o : Option Image). NothingPending o new.may_leave) there.1 quiet
 
   -- it stands where it stood
-  still_at : (failed : Bool) (rest : List Standing) (c : Image) → old.may_leave c → StandsAt (Holds keying.tag c) failed s.pool.group (s ∷ rest)
+  still_at : (failed : Bool) (rest : List Standing) (c : Image) → old.may_leave c
+      → StandsAt (Holds keying.tag c) failed s.pool.group (s ∷ rest)
   still_at failed rest c left =
       inl (refl, inl (over_leaves old held s keying.tag ran.over ran.tag_is c left))
 
@@ -199,10 +208,12 @@ module _ (keying : Keying) (old new : DiskState) (held : Held) (s : Standing) (m
         → (fault ≡ syncs.Memory → (c : Image) → new.may_leave c → old.may_leave c)
         → ((sector : ℕ) → fault ≡ syncs.Damaged sector → (c : Image) → new.may_leave c → old.may_leave c)
         → (fault ≡ syncs.ReadFault → (c : Image) → new.may_leave c → old.may_leave c)
-        → (c : Image) → new.may_leave c → StandsAt (Holds keying.tag c) (is_write_fault (status_of fault)) s.pool.group (s ∷ after pages ∷ [])
+        → (c : Image) → new.may_leave c
+        → StandsAt (Holds keying.tag c) (is_write_fault (status_of fault)) s.pool.group (s ∷ after pages ∷ [])
     at_return syncs.ReadFault before unwritten damaged unread c left = still_at false (after pages ∷ []) c (unread refl c left)
     at_return syncs.Memory before unwritten damaged unread c left = still_at false (after pages ∷ []) c (unwritten refl c left)
-    at_return (syncs.Damaged sector) before unwritten damaged unread c left = still_at false (after pages ∷ []) c (damaged sector refl c left)
+    at_return (syncs.Damaged sector) before unwritten damaged unread c left = still_at false (after pages ∷ []) c
+        (damaged sector refl c left)
     at_return syncs.WriteFault before unwritten damaged unread c left =
         inl (refl, inl (before_holds c (at_end (before refl) here c left).stands))
     at_return syncs.GateFault before unwritten damaged unread c left =
@@ -227,9 +238,11 @@ module _ (keying : Keying) (old new : DiskState) (held : Held) (s : Standing) (m
           after_is = refl;
           did = inr (record { lanes = ran.run.answers.lanes; agrees = ran.run.answers.agrees }, has_room pages count);
         };
-        crash = subst (λ (stands : List Standing). LeavesOnly old new (λ c. AnyStands (Holds keying.tag c) (s ∷ stands))) (sym began) (while_syncing pages run);
+        crash = subst (λ (stands : List Standing). LeavesOnly old new (λ c. AnyStands (Holds keying.tag c) (s ∷ stands))) (sym began)
+            (while_syncing pages run);
         at_return = λ c left.
-            subst (λ (stands : List Standing). StandsAt (Holds keying.tag c) (is_write_fault (status_of fault)) s.pool.group (s ∷ stands)) (sym began)
+            subst (λ (stands : List Standing). StandsAt (Holds keying.tag c) (is_write_fault (status_of fault)) s.pool.group (s ∷ stands))
+            (sym began)
             (at_return pages here run fault before unwritten damaged unread c left);
       })
     where

@@ -43,7 +43,8 @@ module _ (old : DiskState) (keying : Keying) (held : Held) (s : Standing) (over 
       weakened (λ c. AnyStands (Holds keying.tag c) (s ∷ rest)) run (λ c left. inl (over_leaves old held s keying.tag over tag_is c left))
 
   -- after calls that write nothing
-  module _ (new : DiskState) (stays : Stays old.seen new.seen) (same : SameOutcomes old.may_leave new.may_leave) (run : LeavesOnly old new old.may_leave) where
+  module _ (new : DiskState) (stays : Stays old.seen new.seen) (same : SameOutcomes old.may_leave new.may_leave)
+      (run : LeavesOnly old new old.may_leave) where
     abbrev pub still_over : IsOver new held s
     still_over = record {
       image = over.image;

@@ -67,7 +67,8 @@ abbrev pub group_step : (before : Standing) → GroupItem → Told → (after : 
 group_step before item told after = record { part = of_group item; before = before; note = Some told; after = after }
 
 -- the lanes of a group were run over these told contents, and what they leave finds room
-pub record HasRunOver (keying : Keying) (disk : DiskState) (held : Held) (s : Standing) (moment : ℕ) (tasks : List Task) (told : Told) (closed : PlainClosed) : Type 0 where
+pub record HasRunOver (keying : Keying) (disk : DiskState) (held : Held) (s : Standing) (moment : ℕ) (tasks : List Task) (told : Told)
+    (closed : PlainClosed) : Type 0 where
   pub over : IsOver disk held s
   pub tag_is : held.tag ≡ keying.tag
   pub no_clash : HasNoClash keying.key_of s moment tasks
@@ -99,7 +100,8 @@ GroupWent old new rules s item told held (Ok done) = GroupEnded old new rules s 
 GroupWent old new rules s item told held (Err status) = GroupCut old new rules s item told status
 
 -- what was written of a group by how it ended, and which group is then the session's newest
-abbrev pub TellsGroup : (ended : Result Unit Status) → (number before sealed : ℕ) → (wrote unwritten : Type 0) → (result : Result Unit Status) → Type 0
+abbrev pub TellsGroup : (ended : Result Unit Status) → (number before sealed : ℕ) → (wrote unwritten : Type 0)
+    → (result : Result Unit Status) → Type 0
 TellsGroup (Ok done) number before sealed wrote unwritten result =
     (sealed ≡ number) × wrote × ((status : Status) → IsErrOf result status → status ≡ SinkFault)
 TellsGroup (Err status) number before sealed wrote unwritten result = (sealed ≡ before) × unwritten × (result ≡ Err status)

@@ -29,7 +29,8 @@ nothing = record { slots = []; unique = []; duplicate = []; active = []; flushin
 reads_nothing : (image : Image) (count : ℕ) → length image ≡ suc count → Reads image [] (Some null_pointer) [] []
 reads_nothing image count same = ap (λ n. walk n image (length image) [] null_pointer) same ∙ refl
 
-new_formed : (tag sectors size : ℕ) → fewest_sectors ≤ sectors → sectors ≤ most_sectors → sectors ≤ size → is_formed tag size (new_seal tag sectors) ≡ true
+new_formed : (tag sectors size : ℕ) → fewest_sectors ≤ sectors → sectors ≤ most_sectors → sectors ≤ size
+    → is_formed tag size (new_seal tag sectors) ≡ true
 new_formed tag sectors size enough few there =
     and_from _ _ (and_from _ _ (and_from _ _ (and_from _ _ (and_from _ _ (eq-eqb tag tag refl) refl) sizes) refl) refl) refl
   where
@@ -37,12 +38,14 @@ new_formed tag sectors size enough few there =
     at_least x y le = grind (arith, nat_tests, le)
 
     sizes : has_size size (new_seal tag sectors) ≡ true
-    sizes = and_from _ _ (and_from _ _ (at_least fewest_sectors sectors enough) (at_least sectors most_sectors few)) (at_least sectors size there)
+    sizes = and_from _ _ (and_from _ _ (at_least fewest_sectors sectors enough) (at_least sectors most_sectors few))
+        (at_least sectors size there)
 
 empty_sorted : IsTable empty_table
 empty_sorted = record { zap_rising = tt; zap_counted = tt; flush_rising = tt; active_rising = tt; logs_apart = tt; past = tt }
 
-pub stands_for_empty : (tag sectors : ℕ) (image : Image) → fewest_sectors ≤ sectors → sectors ≤ most_sectors → sectors ≤ length image → newest image_version image ≡ Some (new_seal tag sectors) → StandsFor tag image empty_pool empty_table
+pub stands_for_empty : (tag sectors : ℕ) (image : Image) → fewest_sectors ≤ sectors → sectors ≤ most_sectors → sectors ≤ length image
+    → newest image_version image ≡ Some (new_seal tag sectors) → StandsFor tag image empty_pool empty_table
 unfolding nothing
 stands_for_empty tag sectors image enough few there seals =
     record {
@@ -105,14 +108,16 @@ stands_for_empty tag sectors image enough few there seals =
 
 -- the sectors that an empty pool uses are the ring's
 pub used_by_none : (sectors : ℕ) → ring_used sectors ≡ used_sectors sectors [] empty_pool empty_table
-used_by_none sectors = map_same (λ sector. nat_lt sector 32) (is_used [] empty_pool empty_table) (range_with_len 0 sectors) (λ s. ring_alone (nat_lt s 32))
+used_by_none sectors = map_same (λ sector. nat_lt sector 32) (is_used [] empty_pool empty_table) (range_with_len 0 sectors)
+    (λ s. ring_alone (nat_lt s 32))
   where
     ring_alone : (b : Bool) → b ≡ (b || false || false || false)
     ring_alone true = refl
     ring_alone false = refl
 
 -- it stands for the empty pool over an image in which the first seal counts
-pub new_is_held : (tag sectors : ℕ) (image : Image) → fewest_sectors ≤ sectors → sectors ≤ most_sectors → sectors ≤ length image → newest image_version image ≡ Some (new_seal tag sectors) → IsHeld image (new_held tag sectors) empty_pool empty_table
+pub new_is_held : (tag sectors : ℕ) (image : Image) → fewest_sectors ≤ sectors → sectors ≤ most_sectors → sectors ≤ length image
+    → newest image_version image ≡ Some (new_seal tag sectors) → IsHeld image (new_held tag sectors) empty_pool empty_table
 unfolding stands_for_empty nothing
 new_is_held tag sectors image enough few there seals = record {
   stands = stands_for_empty tag sectors image enough few there seals;

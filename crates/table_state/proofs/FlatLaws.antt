@@ -19,10 +19,12 @@ use Rattle.table_state.specs.SlotRecords.{slot_in}
 use Rattle.table_state.specs.declared.slot_record.SlotRecord.{SlotRecord}
 
 -- a walk comes to one end
-pub one_walk : (image : Image) (before before' : List ℕ) (root : Option PagePtr) (after after' : List ℕ) (records records' : List (List ℕ)) → before ≡ before' → Reads image before root after records → Reads image before' root after' records'
+pub one_walk : (image : Image) (before before' : List ℕ) (root : Option PagePtr) (after after' : List ℕ) (records records' : List (List ℕ))
+    → before ≡ before' → Reads image before root after records → Reads image before' root after' records'
     → (after ≡ after') × (records ≡ records')
 one_walk image before before' root after after' records records' start one other =
-    let same : Some (walked after records) ≡ Some (walked after' records') = sym one ∙ ap (λ (b : List ℕ). chain_in image (length image) b root) start ∙ other in
+    let same : Some (walked after records) ≡ Some (walked after' records') = sym one
+    ∙ ap (λ (b : List ℕ). chain_in image (length image) b root) start ∙ other in
     (ap (λ o. (unwrap_or o (walked after records)).named) same, ap (λ o. (unwrap_or o (walked after records)).records) same)
   where
     walked : List ℕ → List (List ℕ) → Walked
@@ -61,21 +63,29 @@ abbrev flat_of : List SlotRecord → List Entry → List Entry → List Change �
 flat_of slots unique duplicate active flushing named =
     record { slots = slots; unique = unique; duplicate = duplicate; active = active; flushing = flushing; named = named }
 
-same_flat : (s s' : List SlotRecord) (u u' d d' : List Entry) (a a' f f' : List Change) (n n' : List ℕ) → s ≡ s' → u ≡ u' → d ≡ d' → a ≡ a' → f ≡ f' → n ≡ n' → flat_of s u d a f n ≡ flat_of s' u' d' a' f' n'
+same_flat : (s s' : List SlotRecord) (u u' d d' : List Entry) (a a' f f' : List Change) (n n' : List ℕ) → s ≡ s' → u ≡ u' → d ≡ d' → a ≡ a'
+    → f ≡ f' → n ≡ n' → flat_of s u d a f n ≡ flat_of s' u' d' a' f' n'
 same_flat s s' u u' d d' a a' f f' n n' es eu ed ea ef en = cc
 
 -- the five chains keep one thing
 pub one_flat : (image : Image) (seal : Seal) (flat flat' : Flat) → IsRead image seal flat → IsRead image seal flat' → flat ≡ flat'
 one_flat image seal flat flat' one other =
     let first = one_walk image [] [] (slots_root seal) one.after_slots other.after_slots one.slots other.slots refl one.first other.first in
-    let second = one_walk image one.after_slots other.after_slots (unique_root seal) one.after_unique other.after_unique one.unique other.unique first.0 one.second other.second in
-    let third = one_walk image one.after_unique other.after_unique (duplicate_root seal) one.after_duplicate other.after_duplicate one.duplicate other.duplicate second.0 one.third other.third in
-    let fourth = one_walk image one.after_duplicate other.after_duplicate (active_root seal) one.after_active other.after_active one.active other.active third.0 one.fourth other.fourth in
-    let fifth = one_walk image one.after_active other.after_active (flushing_root seal) flat.named flat'.named one.flushing other.flushing fourth.0 one.fifth other.fifth in
+    let second = one_walk image one.after_slots other.after_slots
+    (unique_root seal) one.after_unique other.after_unique one.unique other.unique first.0 one.second other.second in
+    let third = one_walk image one.after_unique other.after_unique
+    (duplicate_root seal) one.after_duplicate other.after_duplicate one.duplicate other.duplicate second.0 one.third other.third in
+    let fourth = one_walk image one.after_duplicate other.after_duplicate
+    (active_root seal) one.after_active other.after_active one.active other.active third.0 one.fourth other.fourth in
+    let fifth = one_walk image one.after_active other.after_active
+    (flushing_root seal) flat.named flat'.named one.flushing other.flushing fourth.0 one.fifth other.fifth in
     same_flat _ _ _ _ _ _ _ _ _ _ _ _
-    (one_list Some same_some flat.slots flat'.slots (sym one.slots_spelled ∙ ap (map (slot_in seal.sectors seal.group)) first.1 ∙ other.slots_spelled))
-    (one_list (λ entry. right (changes.Entry entry)) same_entry flat.unique flat'.unique (sym one.unique_spelled ∙ ap (map change_in) second.1 ∙ other.unique_spelled))
-    (one_list (λ entry. right (changes.Entry entry)) same_entry flat.duplicate flat'.duplicate (sym one.duplicate_spelled ∙ ap (map change_in) third.1 ∙ other.duplicate_spelled))
+    (one_list Some same_some flat.slots flat'.slots
+    (sym one.slots_spelled ∙ ap (map (slot_in seal.sectors seal.group)) first.1 ∙ other.slots_spelled))
+    (one_list (λ entry. right (changes.Entry entry)) same_entry flat.unique flat'.unique
+    (sym one.unique_spelled ∙ ap (map change_in) second.1 ∙ other.unique_spelled))
+    (one_list (λ entry. right (changes.Entry entry)) same_entry flat.duplicate flat'.duplicate
+    (sym one.duplicate_spelled ∙ ap (map change_in) third.1 ∙ other.duplicate_spelled))
     (one_list right same_ok flat.active flat'.active (sym one.active_spelled ∙ ap (map change_in) fourth.1 ∙ other.active_spelled))
     (one_list right same_ok flat.flushing flat'.flushing (sym one.flushing_spelled ∙ ap (map change_in) fifth.1 ∙ other.flushing_spelled))
     fifth.0

@@ -21,7 +21,8 @@ use Rattle.table_state.specs.Sealed.{SameBlocks}
 use Rattle.table_state.specs.declared.slot_record.SlotRecord.{SlotRecord}
 
 -- a sector that is named holds the same
-same_there : (image c : Image) (sectors : List ℕ) (sector : ℕ) → SameIn image c sectors → list_any (λ other. other == sector) sectors ≡ true → sector_at c sector ≡ sector_at image sector
+same_there : (image c : Image) (sectors : List ℕ) (sector : ℕ) → SameIn image c sectors → list_any (λ other. other == sector) sectors ≡ true
+    → sector_at c sector ≡ sector_at image sector
 same_there image c [] sector same found = absurd (cc found)
 same_there image c (first ∷ sectors) sector same found =
     ⊎_elim
@@ -34,52 +35,67 @@ data Step (most : ℕ) (image : Image) (sectors : ℕ) (named : List ℕ) (point
   ended : is_null pointer ≡ true → record { named = named; records = [] } ≡ walked → Step most image sectors named pointer walked
   went_on : (w : Walked) → is_null pointer ≡ false → (is_open_to sectors named pointer.sector && holds_page image pointer) ≡ true
       → walk most image sectors (named ++ pointer.sector ∷ []) (next_in (sector_at image pointer.sector)) ≡ Some w
-      → record w { records = (chain_page_in (sector_at image pointer.sector)).records ++ w.records } ≡ walked → Step most image sectors named pointer walked
+      → record w { records = (chain_page_in (sector_at image pointer.sector)).records ++ w.records } ≡ walked
+      → Step most image sectors named pointer walked
 
 same_walked : (a b : Walked) → Some a ≡ Some b → a ≡ b
 same_walked a b same = ap (λ o. unwrap_or o a) same
 
-step_of : (most : ℕ) (image : Image) (sectors : ℕ) (named : List ℕ) (pointer : PagePtr) (walked : Walked) → walk (suc most) image sectors named pointer ≡ Some walked → Step most image sectors named pointer walked
+step_of : (most : ℕ) (image : Image) (sectors : ℕ) (named : List ℕ) (pointer : PagePtr) (walked : Walked)
+    → walk (suc most) image sectors named pointer ≡ Some walked → Step most image sectors named pointer walked
 step_of most image sectors named pointer walked is =
-    by_null (is_null pointer) (is_open_to sectors named pointer.sector && holds_page image pointer) (walk most image sectors (named ++ pointer.sector ∷ []) (next_in (sector_at image pointer.sector))) refl refl refl is
+    by_null (is_null pointer) (is_open_to sectors named pointer.sector && holds_page image pointer)
+    (walk most image sectors (named ++ pointer.sector ∷ []) (next_in (sector_at image pointer.sector))) refl refl refl is
   where
     here : Walked
     here = record { named = named; records = [] }
 
-    by_null : (b d : Bool) (o : Option Walked) → is_null pointer ≡ b → (is_open_to sectors named pointer.sector && holds_page image pointer) ≡ d
+    by_null : (b d : Bool) (o : Option Walked) → is_null pointer ≡ b
+        → (is_open_to sectors named pointer.sector && holds_page image pointer) ≡ d
         → walk most image sectors (named ++ pointer.sector ∷ []) (next_in (sector_at image pointer.sector)) ≡ o
-        → (if b then Some here else (if d then behind_records (chain_page_in (sector_at image pointer.sector)).records o else None)) ≡ Some walked → Step most image sectors named pointer walked
+        → (if b then Some here else (if d then behind_records (chain_page_in (sector_at image pointer.sector)).records o else None)) ≡ Some
+        walked → Step most image sectors named pointer walked
     by_null true d o null belongs rest same = ended null (same_walked here walked same)
     by_null false true None null belongs rest same = absurd (cc same)
     by_null false true (Some w) null belongs rest same = went_on w null belongs rest (same_walked _ walked same)
     by_null false false o null belongs rest same = absurd (cc same)
 
 -- whatever was named before a walk is named after it
-named_grows : (test : ℕ → Bool) (most : ℕ) (image : Image) (sectors : ℕ) (named : List ℕ) (pointer : PagePtr) (walked : Walked) → walk most image sectors named pointer ≡ Some walked → list_any test named ≡ true → list_any test walked.named ≡ true
+named_grows : (test : ℕ → Bool) (most : ℕ) (image : Image) (sectors : ℕ) (named : List ℕ) (pointer : PagePtr) (walked : Walked)
+    → walk most image sectors named pointer ≡ Some walked → list_any test named ≡ true → list_any test walked.named ≡ true
 named_grows test zero image sectors named pointer walked is before = absurd (cc is)
 named_grows test (suc most) image sectors named pointer walked is before =
-    by_step (λ w rest. named_grows test most image sectors (named ++ pointer.sector ∷ []) (next_in (sector_at image pointer.sector)) w rest longer) (step_of most image sectors named pointer walked is)
+    by_step (λ w rest. named_grows test most image sectors (named ++ pointer.sector ∷ [])
+    (next_in (sector_at image pointer.sector)) w rest longer) (step_of most image sectors named pointer walked is)
   where
     longer : list_any test (named ++ pointer.sector ∷ []) ≡ true
     longer = list_any-append test named (pointer.sector ∷ []) ∙ ap (λ b. b || list_any test (pointer.sector ∷ [])) before
 
-    by_step : ((w : Walked) → walk most image sectors (named ++ pointer.sector ∷ []) (next_in (sector_at image pointer.sector)) ≡ Some w → list_any test w.named ≡ true) → Step most image sectors named pointer walked → list_any test walked.named ≡ true
+    by_step : ((w : Walked) → walk most image sectors (named ++ pointer.sector ∷ []) (next_in (sector_at image pointer.sector)) ≡ Some w
+        → list_any test w.named ≡ true) → Step most image sectors named pointer walked → list_any test walked.named ≡ true
     by_step again (ended null same) = ap (λ (w : Walked). list_any test w.named) (sym same) ∙ before
     by_step again (went_on w null belongs rest same) = ap (λ (v : Walked). list_any test v.named) (sym same) ∙ again w rest
 
 -- whatever a walk names lies behind the ring
-pub named_behind : (most : ℕ) (image : Image) (sectors : ℕ) (named : List ℕ) (pointer : PagePtr) (walked : Walked) → walk most image sectors named pointer ≡ Some walked → AllByRecursion (λ sector. 32 ≤ sector) named → AllByRecursion (λ sector. 32 ≤ sector) walked.named
+pub named_behind : (most : ℕ) (image : Image) (sectors : ℕ) (named : List ℕ) (pointer : PagePtr) (walked : Walked)
+    → walk most image sectors named pointer ≡ Some walked → AllByRecursion (λ sector. 32 ≤ sector) named
+    → AllByRecursion (λ sector. 32 ≤ sector) walked.named
 named_behind zero image sectors named pointer walked is before = absurd (cc is)
 named_behind (suc most) image sectors named pointer walked is before =
-    by_step (λ w rest open_here. named_behind most image sectors (named ++ pointer.sector ∷ []) (next_in (sector_at image pointer.sector)) w rest (longer named before open_here)) (step_of most image sectors named pointer walked is)
+    by_step (λ w rest open_here. named_behind most image sectors (named ++ pointer.sector ∷ [])
+    (next_in (sector_at image pointer.sector)) w rest (longer named before open_here)) (step_of most image sectors named pointer walked is)
   where
-    longer : (ns : List ℕ) → AllByRecursion (λ sector. 32 ≤ sector) ns → is_open_to sectors named pointer.sector ≡ true → AllByRecursion (λ sector. 32 ≤ sector) (ns ++ pointer.sector ∷ [])
+    longer : (ns : List ℕ) → AllByRecursion (λ sector. 32 ≤ sector) ns → is_open_to sectors named pointer.sector ≡ true
+        → AllByRecursion (λ sector. 32 ≤ sector) (ns ++ pointer.sector ∷ [])
     longer [] all open_here = ((is_open-parts sectors named pointer.sector open_here).from, tt)
     longer (n ∷ ns) all open_here = (all.0, longer ns all.1 open_here)
 
-    by_step : ((w : Walked) → walk most image sectors (named ++ pointer.sector ∷ []) (next_in (sector_at image pointer.sector)) ≡ Some w → is_open_to sectors named pointer.sector ≡ true → AllByRecursion (λ sector. 32 ≤ sector) w.named) → Step most image sectors named pointer walked → AllByRecursion (λ sector. 32 ≤ sector) walked.named
+    by_step : ((w : Walked) → walk most image sectors (named ++ pointer.sector ∷ []) (next_in (sector_at image pointer.sector)) ≡ Some w
+        → is_open_to sectors named pointer.sector ≡ true → AllByRecursion (λ sector. 32 ≤ sector) w.named)
+        → Step most image sectors named pointer walked → AllByRecursion (λ sector. 32 ≤ sector) walked.named
     by_step again (ended null same) = subst (λ (w : Walked). AllByRecursion (λ sector. 32 ≤ sector) w.named) same before
-    by_step again (went_on w null belongs rest same) = subst (λ (v : Walked). AllByRecursion (λ sector. 32 ≤ sector) v.named) same (again w rest (and_parts (is_open_to sectors named pointer.sector) (holds_page image pointer) belongs).0)
+    by_step again (went_on w null belongs rest same) = subst (λ (v : Walked). AllByRecursion (λ sector. 32 ≤ sector) v.named) same
+        (again w rest (and_parts (is_open_to sectors named pointer.sector) (holds_page image pointer) belongs).0)
 
 -- and so does each page of a flat image
 pub pages_behind : (image : Image) (seal : Seal) (flat : Flat) → IsRead image seal flat → AllByRecursion (λ sector. 32 ≤ sector) flat.named
@@ -87,20 +103,27 @@ pages_behind image seal flat read =
     one read.after_active (flushing_root seal) flat.named read.flushing read.fifth
     (one read.after_duplicate (active_root seal) read.after_active read.active read.fourth
     (one read.after_unique (duplicate_root seal) read.after_duplicate read.duplicate read.third
-    (one read.after_slots (unique_root seal) read.after_unique read.unique read.second (one [] (slots_root seal) read.after_slots read.slots read.first tt))))
+    (one read.after_slots (unique_root seal) read.after_unique read.unique read.second
+    (one [] (slots_root seal) read.after_slots read.slots read.first tt))))
   where
-    one : (before : List ℕ) (root : Option PagePtr) (after : List ℕ) (records : List (List ℕ)) → Reads image before root after records → AllByRecursion (λ sector. 32 ≤ sector) before → AllByRecursion (λ sector. 32 ≤ sector) after
-    one before root after records read = named_behind (length image) image (length image) before (pointer_or_null root) (record { named = after; records = records }) read
+    one : (before : List ℕ) (root : Option PagePtr) (after : List ℕ) (records : List (List ℕ)) → Reads image before root after records
+        → AllByRecursion (λ sector. 32 ≤ sector) before → AllByRecursion (λ sector. 32 ≤ sector) after
+    one before root after records read = named_behind (length image) image (length image) before (pointer_or_null root)
+        (record { named = after; records = records }) read
 
 -- the walk is the same on an image that holds the same in each sector that it names
-pub walk_kept : (most : ℕ) (image c : Image) (sectors : ℕ) (named : List ℕ) (pointer : PagePtr) (walked : Walked) → walk most image sectors named pointer ≡ Some walked → SameIn image c walked.named → walk most c sectors named pointer ≡ Some walked
+pub walk_kept : (most : ℕ) (image c : Image) (sectors : ℕ) (named : List ℕ) (pointer : PagePtr) (walked : Walked)
+    → walk most image sectors named pointer ≡ Some walked → SameIn image c walked.named → walk most c sectors named pointer ≡ Some walked
 walk_kept zero image c sectors named pointer walked is same = absurd (cc is)
 walk_kept (suc most) image c sectors named pointer walked is same =
-    by_step (λ w rest there. walk_kept most image c sectors (named ++ pointer.sector ∷ []) (next_in (sector_at image pointer.sector)) w rest there) (step_of most image sectors named pointer walked is)
+    by_step (λ w rest there. walk_kept most image c sectors (named ++ pointer.sector ∷ [])
+    (next_in (sector_at image pointer.sector)) w rest there) (step_of most image sectors named pointer walked is)
   where
-    by_step : ((w : Walked) → walk most image sectors (named ++ pointer.sector ∷ []) (next_in (sector_at image pointer.sector)) ≡ Some w → SameIn image c w.named → walk most c sectors (named ++ pointer.sector ∷ []) (next_in (sector_at image pointer.sector)) ≡ Some w)
+    by_step : ((w : Walked) → walk most image sectors (named ++ pointer.sector ∷ []) (next_in (sector_at image pointer.sector)) ≡ Some w
+        → SameIn image c w.named → walk most c sectors (named ++ pointer.sector ∷ []) (next_in (sector_at image pointer.sector)) ≡ Some w)
         → Step most image sectors named pointer walked → walk (suc most) c sectors named pointer ≡ Some walked
-    by_step again (ended null done) = ap (λ b. if b then Some (record { named = named; records = [] }) else further (sector_at c pointer.sector)) null ∙ ap Some done
+    by_step again (ended null done) = ap
+        (λ b. if b then Some (record { named = named; records = [] }) else further (sector_at c pointer.sector)) null ∙ ap Some done
       where
         further : List ℕ → Option Walked
         further bytes =
@@ -108,14 +131,18 @@ walk_kept (suc most) image c sectors named pointer walked is same =
             then behind_records (chain_page_in bytes).records (walk most c sectors (named ++ pointer.sector ∷ []) (next_in bytes))
             else None
     by_step again (went_on w null belongs rest done) =
-        ap (λ b. if b then Some (record { named = named; records = [] }) else further (is_open_to sectors named pointer.sector && holds_page c pointer) (sector_at c pointer.sector)) null
-        ∙ ap (λ b. further b (sector_at c pointer.sector)) (ap (λ (bytes : List ℕ). is_open_to sectors named pointer.sector && (bytes_eq (sha256 bytes) pointer.digest && is_chain_page bytes)) page ∙ belongs)
+        ap (λ b. if b then Some (record { named = named; records = [] }) else further
+        (is_open_to sectors named pointer.sector && holds_page c pointer) (sector_at c pointer.sector)) null
+        ∙ ap (λ b. further b (sector_at c pointer.sector))
+        (ap (λ (bytes : List ℕ). is_open_to sectors named pointer.sector && (bytes_eq (sha256 bytes) pointer.digest && is_chain_page bytes))
+        page ∙ belongs)
         ∙ ap (λ (bytes : List ℕ). further true bytes) page
         ∙ ap (behind_records (chain_page_in (sector_at image pointer.sector)).records) (again w rest there)
         ∙ ap Some done
       where
         further : Bool → List ℕ → Option Walked
-        further b bytes = if b then behind_records (chain_page_in bytes).records (walk most c sectors (named ++ pointer.sector ∷ []) (next_in bytes)) else None
+        further b bytes = if b then behind_records (chain_page_in bytes).records
+            (walk most c sectors (named ++ pointer.sector ∷ []) (next_in bytes)) else None
 
         there : SameIn image c w.named
         there = subst (λ (v : Walked). SameIn image c v.named) (sym done) same
@@ -125,32 +152,45 @@ walk_kept (suc most) image c sectors named pointer walked is same =
         last_one false = ap (λ x. x || false) (eq-eqb pointer.sector pointer.sector refl)
 
         self : list_any (λ other. other == pointer.sector) (named ++ pointer.sector ∷ []) ≡ true
-        self = list_any-append (λ other. other == pointer.sector) named (pointer.sector ∷ []) ∙ last_one (list_any (λ other. other == pointer.sector) named)
+        self = list_any-append (λ other. other == pointer.sector) named (pointer.sector ∷ [])
+            ∙ last_one (list_any (λ other. other == pointer.sector) named)
 
         page : sector_at c pointer.sector ≡ sector_at image pointer.sector
-        page = same_there image c w.named pointer.sector there (named_grows (λ other. other == pointer.sector) most image sectors (named ++ pointer.sector ∷ []) (next_in (sector_at image pointer.sector)) w rest self)
+        page = same_there image c w.named pointer.sector there
+            (named_grows (λ other. other == pointer.sector) most image sectors (named ++ pointer.sector ∷ [])
+            (next_in (sector_at image pointer.sector)) w rest self)
 
 -- the pointers keep their contents where their blocks are the same
-pub pointers_kept : (image c : Image) (table : TableState) (slots : List SlotRecord) → SameBlocks image c slots → map (pointer_of image table) slots ≡ map (pointer_of c table) slots
+pub pointers_kept : (image c : Image) (table : TableState) (slots : List SlotRecord) → SameBlocks image c slots
+    → map (pointer_of image table) slots ≡ map (pointer_of c table) slots
 pointers_kept image c table [] same = refl
 pointers_kept image c table (slot ∷ slots) same =
-    ap (λ (bytes : List ℕ). with_block bytes ∷ map (pointer_of image table) slots) (sym same.0) ∙ ap (λ (ps : List Pointer). pointer_of c table slot ∷ ps) (pointers_kept image c table slots same.1)
+    ap (λ (bytes : List ℕ). with_block bytes ∷ map (pointer_of image table) slots) (sym same.0)
+    ∙ ap (λ (ps : List Pointer). pointer_of c table slot ∷ ps) (pointers_kept image c table slots same.1)
   where
     with_block : List ℕ → Pointer
     with_block bytes = record (pointer_of c table slot) { content = take slot.pointer.key.len bytes }
 
 -- each part of what is named by and by is named at the end
 module _ (image c : Image) (count : length c ≡ length image) where
-  reads_kept : (before : List ℕ) (root : Option PagePtr) (after : List ℕ) (records : List (List ℕ)) → Reads image before root after records → SameIn image c after → Reads c before root after records
+  reads_kept : (before : List ℕ) (root : Option PagePtr) (after : List ℕ) (records : List (List ℕ)) → Reads image before root after records
+      → SameIn image c after → Reads c before root after records
   reads_kept before root after records read same =
       ap (λ n. walk n c n before (pointer_or_null root)) count
-      ∙ walk_kept (length image) image c (length image) before (pointer_or_null root) (record { named = after; records = records }) read same
+      ∙ walk_kept (length image) image c (length image) before (pointer_or_null root)
+      (record { named = after; records = records }) read same
 
   -- what was the same at the end of a walk was the same before it
-  earlier : (before : List ℕ) (root : Option PagePtr) (after : List ℕ) (records : List (List ℕ)) → Reads image before root after records → SameIn image c after → SameIn image c before
-  earlier before root after records read same = every before (λ sector named. same_there image c after sector same (named_grows (λ other. other == sector) (length image) image (length image) before (pointer_or_null root) (record { named = after; records = records }) read named))
+  earlier : (before : List ℕ) (root : Option PagePtr) (after : List ℕ) (records : List (List ℕ)) → Reads image before root after records
+      → SameIn image c after → SameIn image c before
+  earlier before root after records read same = every before
+      (λ sector named. same_there image c after sector same
+      (named_grows (λ other. other == sector) (length image) image (length image) before (pointer_or_null root)
+      (record { named = after; records = records }) read named))
     where
-      every : (sectors : List ℕ) → ((sector : ℕ) → list_any (λ other. other == sector) sectors ≡ true → sector_at c sector ≡ sector_at image sector) → SameIn image c sectors
+      every : (sectors : List ℕ)
+          → ((sector : ℕ) → list_any (λ other. other == sector) sectors ≡ true → sector_at c sector ≡ sector_at image sector)
+          → SameIn image c sectors
       every [] each = tt
       every (sector ∷ sectors) each =
           (each sector (ap (λ b. b || list_any (λ other. other == sector) sectors) (eq-eqb sector sector refl)), every sectors (λ s found. each s (behind (sector == s) _ found)))
@@ -188,8 +228,10 @@ module _ (image c : Image) (count : length c ≡ length image) where
       }
 
   -- so the image stands for the same pool with the same table
-  pub state_kept : (tag : ℕ) (pool : Pool) (table : TableState) (state : StandsFor tag image pool table) → newest image_version c ≡ newest image_version image → SameIn image c state.flat.named
-      → AllByRecursion (λ slot. sector_at c slot.pointer.place ≡ sector_at image slot.pointer.place) state.flat.slots → StandsFor tag c pool table
+  pub state_kept : (tag : ℕ) (pool : Pool) (table : TableState) (state : StandsFor tag image pool table)
+      → newest image_version c ≡ newest image_version image → SameIn image c state.flat.named
+      → AllByRecursion (λ slot. sector_at c slot.pointer.place ≡ sector_at image slot.pointer.place) state.flat.slots
+      → StandsFor tag c pool table
   state_kept tag pool table state seals pages blocks = record {
     seal = state.seal;
     flat = state.flat;
@@ -205,7 +247,10 @@ module _ (image c : Image) (count : length c ≡ length image) where
     counts = seals ∙ state.counts;
     formed = ap (λ n. is_formed tag n state.seal) count ∙ state.formed;
     read = read_kept state.seal state.flat state.read pages;
-    pool_is = state.pool_is ∙ ap (λ (ps : List Pointer). record { pointers = ps; modes = modes_in state.seal; quota = quota_in state.seal; group = state.seal.group }) (pointers_kept image c (table_in state.seal state.flat) state.flat.slots blocks);
+    pool_is = state.pool_is
+        ∙ ap (λ (ps : List Pointer). record
+        { pointers = ps; modes = modes_in state.seal; quota = quota_in state.seal; group = state.seal.group })
+        (pointers_kept image c (table_in state.seal state.flat) state.flat.slots blocks);
   }
 
   -- by the same seal, with the same content of its chains

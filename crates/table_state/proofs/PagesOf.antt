@@ -28,22 +28,32 @@ same_length : {X Y Z : Type 0} (f : X → Z) (g : Y → Z) (xs : List X) (ys : L
 same_length f g xs ys same = sym (length-map xs f) ∙ ap length same ∙ length-map ys g
 
 -- a chain that was read named as many sectors as so many records take pages
-one_chain : (image : Image) (before : List ℕ) (root : Option PagePtr) (after : List ℕ) (records : List (List ℕ)) (count : ℕ) → Reads image before root after records → length records ≡ count → length after ≡ length before + pages_for count
-one_chain image before root after records count read same = chain_pages image (length image) before root (record { named = after; records = records }) read ∙ ap (λ n. length before + pages_for n) same
+one_chain : (image : Image) (before : List ℕ) (root : Option PagePtr) (after : List ℕ) (records : List (List ℕ)) (count : ℕ)
+    → Reads image before root after records → length records ≡ count → length after ≡ length before + pages_for count
+one_chain image before root after records count read same = chain_pages image (length image) before root
+    (record { named = after; records = records }) read ∙ ap (λ n. length before + pages_for n) same
 
 five_sums : (a b c d e p q r s t : ℕ) → a ≡ 0 + p → b ≡ a + q → c ≡ b + r → d ≡ c + s → e ≡ d + t → e ≡ p + (q + r + s + t)
 five_sums a b c d e p q r s t ea eb ec ed ee = omega arith
 
 -- an image names a sector for each page of its five chains
 pub pages_named : (image : Image) (seal : Seal) (flat : Flat) → IsRead image seal flat
-    → length flat.named ≡ pages_for (length flat.slots) + (pages_for (length flat.unique) + pages_for (length flat.duplicate) + pages_for (length flat.active) + pages_for (length flat.flushing))
+    → length flat.named ≡ pages_for
+    (length flat.slots) + (pages_for (length flat.unique) + pages_for (length flat.duplicate) + pages_for (length flat.active) + pages_for
+    (length flat.flushing))
 pages_named image seal flat read =
-    five_sums (length read.after_slots) (length read.after_unique) (length read.after_duplicate) (length read.after_active) (length flat.named) _ _ _ _ _
-    (one_chain image [] (slots_root seal) read.after_slots read.slots (length flat.slots) read.first (same_length _ _ read.slots flat.slots read.slots_spelled))
-    (one_chain image read.after_slots (unique_root seal) read.after_unique read.unique (length flat.unique) read.second (same_length _ _ read.unique flat.unique read.unique_spelled))
-    (one_chain image read.after_unique (duplicate_root seal) read.after_duplicate read.duplicate (length flat.duplicate) read.third (same_length _ _ read.duplicate flat.duplicate read.duplicate_spelled))
-    (one_chain image read.after_duplicate (active_root seal) read.after_active read.active (length flat.active) read.fourth (same_length _ _ read.active flat.active read.active_spelled))
-    (one_chain image read.after_active (flushing_root seal) flat.named read.flushing (length flat.flushing) read.fifth (same_length _ _ read.flushing flat.flushing read.flushing_spelled))
+    five_sums (length read.after_slots) (length read.after_unique) (length read.after_duplicate) (length read.after_active)
+    (length flat.named) _ _ _ _ _
+    (one_chain image [] (slots_root seal) read.after_slots read.slots (length flat.slots) read.first
+    (same_length _ _ read.slots flat.slots read.slots_spelled))
+    (one_chain image read.after_slots (unique_root seal) read.after_unique read.unique (length flat.unique) read.second
+    (same_length _ _ read.unique flat.unique read.unique_spelled))
+    (one_chain image read.after_unique (duplicate_root seal) read.after_duplicate read.duplicate (length flat.duplicate) read.third
+    (same_length _ _ read.duplicate flat.duplicate read.duplicate_spelled))
+    (one_chain image read.after_duplicate (active_root seal) read.after_active read.active (length flat.active) read.fourth
+    (same_length _ _ read.active flat.active read.active_spelled))
+    (one_chain image read.after_active (flushing_root seal) flat.named read.flushing (length flat.flushing) read.fifth
+    (same_length _ _ read.flushing flat.flushing read.flushing_spelled))
 
 -- ---- How many elements pass a test
 
@@ -66,20 +76,27 @@ module _ {X : Type 0} (test : X → Bool) where
 module _ {K X : Type 0} {order : K → K → Ordering} {key_of : X → K} {put : X → List X → List X} (is : IsPut order key_of put) where
   -- an element that fails a test adds none to those that pass it
   missed_put : (test : X → Bool) (x : X) (xs : List X) → test x ≡ false → length (filter test (put x xs)) ≤ length (filter test xs)
-  missed_put test x [] missed = subst (λ (ys : List X). length (filter test ys) ≤ 0) (sym (is.alone x)) (length-missed test (test x) x [] missed)
-  missed_put test x (y ∷ ys) missed = subst (λ (zs : List X). length (filter test zs) ≤ length (filter test (y ∷ ys))) (sym (is.step x y ys)) (by_order (missed_put test x ys missed) (order (key_of x) (key_of y)))
+  missed_put test x [] missed = subst (λ (ys : List X). length (filter test ys) ≤ 0) (sym (is.alone x))
+      (length-missed test (test x) x [] missed)
+  missed_put test x (y ∷ ys) missed = subst (λ (zs : List X). length (filter test zs) ≤ length (filter test (y ∷ ys)))
+      (sym (is.step x y ys)) (by_order (missed_put test x ys missed) (order (key_of x) (key_of y)))
     where
-      by_order : length (filter test (put x ys)) ≤ length (filter test ys) → (o : Ordering) → length (filter test (if is_lt o then x ∷ y ∷ ys else (if is_eq o then x ∷ ys else y ∷ put x ys))) ≤ length (filter test (y ∷ ys))
+      by_order : length (filter test (put x ys)) ≤ length (filter test ys) → (o : Ordering)
+          → length (filter test (if is_lt o then x ∷ y ∷ ys else (if is_eq o then x ∷ ys else y ∷ put x ys))) ≤ length
+          (filter test (y ∷ ys))
       by_order rest Less = length-missed test (test x) x (filter test (y ∷ ys)) missed
-      by_order rest Equal = omega (arith, length-missed test (test x) x (filter test ys) missed, (length-cond (test y) y (filter test ys)).0)
+      by_order rest Equal = omega
+          (arith, length-missed test (test x) x (filter test ys) missed, (length-cond (test y) y (filter test ys)).0)
       by_order rest Greater = both_in_front test (test y) y (filter test (put x ys)) (filter test ys) rest
 
-  missed_fold : (test : X → Bool) (xs sorted : List X) → AllByRecursion (λ x. test x ≡ false) xs → length (filter test (fold (λ ys x. put x ys) sorted xs)) ≤ length (filter test sorted)
+  missed_fold : (test : X → Bool) (xs sorted : List X) → AllByRecursion (λ x. test x ≡ false) xs
+      → length (filter test (fold (λ ys x. put x ys) sorted xs)) ≤ length (filter test sorted)
   missed_fold test [] sorted missed = omega arith
   missed_fold test (x ∷ xs) sorted missed = omega (arith, missed_fold test xs (put x sorted) missed.1, missed_put test x sorted missed.0)
 
   -- elements that are put in add at most their number to those that pass a test
-  passing_fold : (test : X → Bool) (xs sorted : List X) → length (filter test (fold (λ ys x. put x ys) sorted xs)) ≤ length (filter test sorted) + length xs
+  passing_fold : (test : X → Bool) (xs sorted : List X)
+      → length (filter test (fold (λ ys x. put x ys) sorted xs)) ≤ length (filter test sorted) + length xs
   passing_fold test [] sorted = omega arith
   passing_fold test (x ∷ xs) sorted = omega (arith, passing_fold test xs (put x sorted), passing_put is test x sorted)
 
@@ -105,7 +122,8 @@ module _ (seal : Seal) (flat : Flat) (whole : HoldTogether seal flat) where
       omega (
         arith,
         missed_fold entries_put (λ entry. entry.home.count == 1) flat.duplicate flat.unique
-            (all_from (λ entry. 1 < entry.home.count) (λ entry. (entry.home.count == 1) ≡ false) (λ entry. not_once entry.home.count) flat.duplicate whole.counted_more),
+            (all_from (λ entry. 1 < entry.home.count) (λ entry. (entry.home.count == 1) ≡ false)
+            (λ entry. not_once entry.home.count) flat.duplicate whole.counted_more),
         length-filter-le (λ entry. entry.home.count == 1) flat.unique,
       )
 
@@ -115,7 +133,8 @@ module _ (seal : Seal) (flat : Flat) (whole : HoldTogether seal flat) where
         arith,
         passing_fold entries_put (λ entry. nat_lt 1 entry.home.count) flat.duplicate flat.unique,
         none_passing (λ entry. nat_lt 1 entry.home.count) flat.unique
-            (all_from (λ entry. entry.home.count ≡ 1) (λ entry. nat_lt 1 entry.home.count ≡ false) (λ entry. not_more entry.home.count) flat.unique whole.counted_once),
+            (all_from (λ entry. entry.home.count ≡ 1) (λ entry. nat_lt 1 entry.home.count ≡ false)
+            (λ entry. not_more entry.home.count) flat.unique whole.counted_once),
       )
 
   fewer_active : length (table_in seal flat).active ≤ length flat.active
@@ -125,20 +144,24 @@ module _ (seal : Seal) (flat : Flat) (whole : HoldTogether seal flat) where
   fewer_flushing =
       omega (
         arith,
-        length-filter-le (λ change. is_past (checkpoint_in seal) (key_in change) && is_missing (change_at (key_in change) (last_changes flat.active))) (last_changes flat.flushing),
+        length-filter-le (λ change. is_past (checkpoint_in seal) (key_in change) && is_missing
+            (change_at (key_in change) (last_changes flat.active))) (last_changes flat.flushing),
         length-fold changes_put flat.flushing [],
       )
 
   -- the four lists of the table take no more pages than those that were read
-  pub table_in_pages : table_pages (table_in seal flat) ≤ pages_for (length flat.unique) + pages_for (length flat.duplicate) + pages_for (length flat.active) + pages_for (length flat.flushing)
+  pub table_in_pages : table_pages (table_in seal flat) ≤ pages_for (length flat.unique) + pages_for (length flat.duplicate) + pages_for
+      (length flat.active) + pages_for (length flat.flushing)
   table_in_pages =
-      four_sums _ _ _ _ _ _ _ _ (fewer_pages _ (length flat.unique) fewer_unique) (fewer_pages _ (length flat.duplicate) fewer_duplicate) (fewer_pages _ (length flat.active) fewer_active) (fewer_pages _ (length flat.flushing) fewer_flushing)
+      four_sums _ _ _ _ _ _ _ _ (fewer_pages _ (length flat.unique) fewer_unique) (fewer_pages _ (length flat.duplicate) fewer_duplicate)
+      (fewer_pages _ (length flat.active) fewer_active) (fewer_pages _ (length flat.flushing) fewer_flushing)
     where
       four_sums : (u d a f u' d' a' f' : ℕ) → u ≤ u' → d ≤ d' → a ≤ a' → f ≤ f' → u + d + a + f ≤ u' + d' + a' + f'
       four_sums u d a f u' d' a' f' eu ed ea ef = omega arith
 
   -- the slots and the table take no more pages than the image names
-  pub pages_within_named : (image : Image) → IsRead image seal flat → pages_for (length flat.slots) + table_pages (table_in seal flat) ≤ length flat.named
+  pub pages_within_named : (image : Image) → IsRead image seal flat
+      → pages_for (length flat.slots) + table_pages (table_in seal flat) ≤ length flat.named
   pages_within_named image read = in_all _ _ _ _ table_in_pages (pages_named image seal flat read)
     where
       in_all : (slots table lists named : ℕ) → table ≤ lists → named ≡ slots + lists → slots + table ≤ named

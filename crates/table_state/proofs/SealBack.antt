@@ -44,7 +44,9 @@ quota_back None = refl
 quota_back (Some limit) = refl
 
 -- a checkpoint is read back from its flag and its key
-pub checkpoint_back : (checkpoint : Option Key) → (if flag_of checkpoint == 1 then Some (record { digest = checkpoint_digest checkpoint; len = checkpoint_len checkpoint }) else None) ≡ checkpoint
+pub checkpoint_back : (checkpoint : Option Key)
+    → (if flag_of checkpoint == 1 then Some
+    (record { digest = checkpoint_digest checkpoint; len = checkpoint_len checkpoint }) else None) ≡ checkpoint
 checkpoint_back None = refl
 checkpoint_back (Some key) = refl
 
@@ -53,7 +55,8 @@ flag_is_flag None = refl
 flag_is_flag (Some x) = refl
 
 -- a checkpoint stands beside changes
-checkpoint_beside : (checkpoint : Option Key) (flush : List Change) → (flush ≡ [] → checkpoint ≡ None) → ((flag_of checkpoint == 0) || nat_lt 0 (length flush)) ≡ true
+checkpoint_beside : (checkpoint : Option Key) (flush : List Change) → (flush ≡ [] → checkpoint ≡ None)
+    → ((flag_of checkpoint == 0) || nat_lt 0 (length flush)) ≡ true
 checkpoint_beside None flush beside = refl
 checkpoint_beside (Some key) [] beside = absurd (cc (beside refl))
 checkpoint_beside (Some key) (change ∷ flush) beside = grind (arith, nat_tests)
@@ -88,13 +91,15 @@ module _ (tag sectors group : ℕ) (modes : List Mode) (quota : Option ℕ) (tab
   -- the seal has the form
   pub seal_is_formed : (size : ℕ) → HasForm sectors group size table → is_formed tag size seal ≡ true
   seal_is_formed size has =
-      and_from _ _ (and_from _ _ (and_from _ _ (and_from _ _ (and_from _ _ (eq-eqb tag tag refl) groups) sizes) flags) (modes_said modes)) (checkpoint_beside table.checkpoint table.flush has.beside)
+      and_from _ _ (and_from _ _ (and_from _ _ (and_from _ _ (and_from _ _ (eq-eqb tag tag refl) groups) sizes) flags) (modes_said modes))
+      (checkpoint_beside table.checkpoint table.flush has.beside)
     where
       groups : has_group seal ≡ true
       groups = and_from _ _ (at_least 1 group has.first) (at_least group last_group has.last)
 
       sizes : has_size size seal ≡ true
-      sizes = and_from _ _ (and_from _ _ (at_least fewest_sectors sectors has.enough) (at_least sectors most_sectors has.few)) (at_least sectors size has.there)
+      sizes = and_from _ _ (and_from _ _ (at_least fewest_sectors sectors has.enough) (at_least sectors most_sectors has.few))
+          (at_least sectors size has.there)
 
       flags : has_flags seal ≡ true
       flags = and_from _ _ (flag_is_flag quota) (flag_is_flag table.checkpoint)

@@ -18,7 +18,8 @@ use Rattle.table_state.specs.Spelling.{kind_number, slot_bytes, FitsSlot, IsSlot
 
 abbrev parts_of : SlotRecord → List (List ℕ)
 parts_of h =
-    number_bytes 4 h.lane ∷ number_bytes 4 h.slot ∷ number_bytes 4 (kind_number h.pointer.kind) ∷ number_bytes 4 h.pointer.key.len ∷ h.pointer.key.digest ∷
+    number_bytes 4 h.lane ∷ number_bytes 4 h.slot ∷ number_bytes 4
+    (kind_number h.pointer.kind) ∷ number_bytes 4 h.pointer.key.len ∷ h.pointer.key.digest ∷
     number_bytes 8 h.pointer.place ∷ number_bytes 8 h.pointer.birth ∷ []
 
 abbrev lens : List ℕ
@@ -29,7 +30,8 @@ grouped a b c k d p q z = simp (append_assoc, append-nil)
 
 spelled_parts : (h : SlotRecord) → slot_bytes h ≡ concat (parts_of h) ++ zeros 8
 spelled_parts h =
-    grouped (number_bytes 4 h.lane) (number_bytes 4 h.slot) (number_bytes 4 (kind_number h.pointer.kind)) (number_bytes 4 h.pointer.key.len) h.pointer.key.digest
+    grouped (number_bytes 4 h.lane) (number_bytes 4 h.slot) (number_bytes 4 (kind_number h.pointer.kind))
+    (number_bytes 4 h.pointer.key.len) h.pointer.key.digest
     (number_bytes 8 h.pointer.place) (number_bytes 8 h.pointer.birth) (zeros 8)
 
 parts_lens : (h : SlotRecord) → KeyFits h.pointer.key → map length (parts_of h) ≡ lens
@@ -38,9 +40,11 @@ parts_lens h fits =
     simp (length-number_bytes, digest)
 
 -- what stands at a part's place
-part : (h : SlotRecord) (rest : List ℕ) → KeyFits h.pointer.key → (k : ℕ) → k < 7 → bytes_at (get_or lens k 0) (offset_of k lens) (slot_bytes h ++ rest) ≡ get_or (parts_of h) k []
+part : (h : SlotRecord) (rest : List ℕ) → KeyFits h.pointer.key → (k : ℕ) → k < 7
+    → bytes_at (get_or lens k 0) (offset_of k lens) (slot_bytes h ++ rest) ≡ get_or (parts_of h) k []
 part h rest fits k lt =
-    ap (λ (xs : List ℕ). bytes_at (get_or lens k 0) (offset_of k lens) xs) (ap (λ (xs : List ℕ). xs ++ rest) (spelled_parts h) ∙ append_assoc (concat (parts_of h)) (zeros 8) rest)
+    ap (λ (xs : List ℕ). bytes_at (get_or lens k 0) (offset_of k lens) xs)
+    (ap (λ (xs : List ℕ). xs ++ rest) (spelled_parts h) ∙ append_assoc (concat (parts_of h)) (zeros 8) rest)
     ∙ part_of (parts_of h) (zeros 8 ++ rest) lens (parts_lens h fits) k lt
 
 pub length-slot : (h : SlotRecord) → FitsSlot h → length (slot_bytes h) ≡ 72
@@ -87,22 +91,28 @@ fields_back h rest fits =
 
 kind_back : (h : SlotRecord) (rest : List ℕ) → FitsSlot h → kind_said (kind_at (slot_bytes h ++ rest)) ≡ Some h.pointer.kind
 kind_back h rest fits =
-    ap kind_said (number_at-is 4 8 (kind_number h.pointer.kind) (slot_bytes h ++ rest) (part h rest fits.key 2 (omega arith)) (kind_number-lt h.pointer.kind))
+    ap kind_said (number_at-is 4 8 (kind_number h.pointer.kind) (slot_bytes h ++ rest) (part h rest fits.key 2 (omega arith))
+    (kind_number-lt h.pointer.kind))
     ∙ kind_said-number h.pointer.kind
 
 -- ---- Ranges
 
-seven : (a b c d e f g : Bool) → a ≡ true → b ≡ true → c ≡ true → d ≡ true → e ≡ true → f ≡ true → g ≡ true → a && b && c && d && e && f && g ≡ true
+seven : (a b c d e f g : Bool) → a ≡ true → b ≡ true → c ≡ true → d ≡ true → e ≡ true → f ≡ true → g ≡ true
+    → a && b && c && d && e && f && g ≡ true
 seven a b c d e f g ha hb hc hd he hf hg = rw (ha, hb, hc, hd, he, hf, hg) refl
 
 pub is_slot-true : (sectors group : ℕ) (h : SlotRecord) → IsSlot sectors group h → is_slot sectors group h ≡ true
 is_slot-true sectors group h is =
-    let len : leb 1 h.pointer.key.len && leb h.pointer.key.len 4_096 ≡ true = and_from (leb 1 h.pointer.key.len) (leb h.pointer.key.len 4_096) (le-leb 1 h.pointer.key.len is.len.0) (le-leb h.pointer.key.len 4_096 is.len.1) in
-    seven (leb h.lane 15) (leb h.slot 65_535) (leb 1 h.pointer.key.len && leb h.pointer.key.len 4_096) (leb 32 h.pointer.place) (ltb h.pointer.place sectors) (leb 1 h.pointer.birth) (leb h.pointer.birth group)
-    (le-leb h.lane 15 is.lane) (le-leb h.slot 65_535 is.slot) len (le-leb 32 h.pointer.place is.place.0) (lt-ltb h.pointer.place sectors is.place.1)
+    let len : leb 1 h.pointer.key.len && leb h.pointer.key.len 4_096 ≡ true = and_from (leb 1 h.pointer.key.len)
+    (leb h.pointer.key.len 4_096) (le-leb 1 h.pointer.key.len is.len.0) (le-leb h.pointer.key.len 4_096 is.len.1) in
+    seven (leb h.lane 15) (leb h.slot 65_535) (leb 1 h.pointer.key.len && leb h.pointer.key.len 4_096) (leb 32 h.pointer.place)
+    (ltb h.pointer.place sectors) (leb 1 h.pointer.birth) (leb h.pointer.birth group)
+    (le-leb h.lane 15 is.lane) (le-leb h.slot 65_535 is.slot) len (le-leb 32 h.pointer.place is.place.0)
+    (lt-ltb h.pointer.place sectors is.place.1)
     (le-leb 1 h.pointer.birth is.birth.0) (le-leb h.pointer.birth group is.birth.1)
 
-each_of : (a b c d e f g : Bool) → a && b && c && d && e && f && g ≡ true → (a ≡ true) × (b ≡ true) × (c ≡ true) × (d ≡ true) × (e ≡ true) × (f ≡ true) × (g ≡ true)
+each_of : (a b c d e f g : Bool) → a && b && c && d && e && f && g ≡ true
+    → (a ≡ true) × (b ≡ true) × (c ≡ true) × (d ≡ true) × (e ≡ true) × (f ≡ true) × (g ≡ true)
 each_of a b c d e f g all =
     let to_f = and_parts (a && b && c && d && e && f) g all in
     let to_e = and_parts (a && b && c && d && e) f to_f.0 in
@@ -114,7 +124,8 @@ each_of a b c d e f g all =
 
 pub is_slot-from : (sectors group : ℕ) (h : SlotRecord) → is_slot sectors group h ≡ true → IsSlot sectors group h
 is_slot-from sectors group h e =
-    let each = each_of (leb h.lane 15) (leb h.slot 65_535) (leb 1 h.pointer.key.len && leb h.pointer.key.len 4_096) (leb 32 h.pointer.place) (ltb h.pointer.place sectors) (leb 1 h.pointer.birth) (leb h.pointer.birth group) e in
+    let each = each_of (leb h.lane 15) (leb h.slot 65_535) (leb 1 h.pointer.key.len && leb h.pointer.key.len 4_096) (leb 32 h.pointer.place)
+    (ltb h.pointer.place sectors) (leb 1 h.pointer.birth) (leb h.pointer.birth group) e in
     let len = and_parts (leb 1 h.pointer.key.len) (leb h.pointer.key.len 4_096) each.2 in
     record {
       lane = leb-true h.lane 15 each.0;
@@ -136,7 +147,8 @@ read_from sectors group (Some kind) bytes h e =
     let found = chosen (is_slot sectors group (slot_at kind bytes)) (slot_at kind bytes) h e in
     (kind, (refl, found.1, subst (λ (g : SlotRecord). IsSlot sectors group g) found.1 (is_slot-from sectors group (slot_at kind bytes) found.0)))
 
-kind_tested : (one two : Bool) (kind : SlotKind) → cond one (Some Plain) (cond two (Some Flagged) None) ≡ Some kind → ((one ≡ true) × (kind ≡ Plain)) ⊎ ((two ≡ true) × (kind ≡ Flagged))
+kind_tested : (one two : Bool) (kind : SlotKind) → cond one (Some Plain) (cond two (Some Flagged) None) ≡ Some kind
+    → ((one ≡ true) × (kind ≡ Plain)) ⊎ ((two ≡ true) × (kind ≡ Flagged))
 kind_tested true two kind e = inl (refl, cc)
 kind_tested false true kind e = inr (refl, cc)
 kind_tested false false kind e = absurd cc
@@ -153,7 +165,8 @@ kind_said-from number kind e =
 in_range-some : (sectors group : ℕ) (h : SlotRecord) → IsSlot sectors group h → in_range sectors group h ≡ Some h
 in_range-some sectors group h is = rw (is_slot-true sectors group h is) refl
 
-pub written : (sectors group : ℕ) (h : SlotRecord) (rest : List ℕ) → FitsSlot h → IsSlot sectors group h → slot_in sectors group (slot_bytes h ++ rest) ≡ Some h
+pub written : (sectors group : ℕ) (h : SlotRecord) (rest : List ℕ) → FitsSlot h → IsSlot sectors group h
+    → slot_in sectors group (slot_bytes h ++ rest) ≡ Some h
 written sectors group h rest fits is =
     ap (λ (o : Option SlotKind). slot_of sectors group o (slot_bytes h ++ rest)) (kind_back h rest fits)
     ∙ ap (in_range sectors group) (fields_back h rest fits) ∙ in_range-some sectors group h is
@@ -172,24 +185,29 @@ fits_at kind bytes fits long = record {
 }
 
 -- the parts of the record that was read are the parts of the bytes
-parts_again : (kind : SlotKind) (bytes : List ℕ) → kind_at bytes ≡ kind_number kind → AreBytes bytes → 72 ≤ length bytes → parts_of (slot_at kind bytes) ≡ cut lens 0 bytes
+parts_again : (kind : SlotKind) (bytes : List ℕ) → kind_at bytes ≡ kind_number kind → AreBytes bytes → 72 ≤ length bytes
+    → parts_of (slot_at kind bytes) ≡ cut lens 0 bytes
 parts_again kind bytes said fits long =
     let lane = number_bytes-at_4 0 bytes fits (omega arith) in
     let slot = number_bytes-at_4 4 bytes fits (omega arith) in
-    let number : number_bytes 4 (kind_number kind) ≡ bytes_at 4 8 bytes = sym (ap (number_bytes 4) said) ∙ number_bytes-at_4 8 bytes fits (omega arith) in
+    let number : number_bytes 4 (kind_number kind) ≡ bytes_at 4 8 bytes = sym (ap (number_bytes 4) said)
+    ∙ number_bytes-at_4 8 bytes fits (omega arith) in
     let len = number_bytes-at_4 12 bytes fits (omega arith) in
     let place = number_bytes-at_8 48 bytes fits (omega arith) in
     let birth = number_bytes-at_8 56 bytes fits (omega arith) in
     rw (lane, slot, number, len, place, birth) refl
 
 -- the first 64 bytes are those that the record is written in
-front_again : (kind : SlotKind) (bytes : List ℕ) → kind_at bytes ≡ kind_number kind → AreBytes bytes → 72 ≤ length bytes → take 64 bytes ≡ take 64 (slot_bytes (slot_at kind bytes))
+front_again : (kind : SlotKind) (bytes : List ℕ) → kind_at bytes ≡ kind_number kind → AreBytes bytes → 72 ≤ length bytes
+    → take 64 bytes ≡ take 64 (slot_bytes (slot_at kind bytes))
 front_again kind bytes said fits long =
     let h : SlotRecord = slot_at kind bytes in
     let front : concat (parts_of h) ≡ take 64 bytes = ap concat (parts_again kind bytes said fits long) ∙ concat-cut lens 0 bytes in
-    sym (ap (take 64) (spelled_parts h) ∙ take_at (concat (parts_of h)) (zeros 8) 64 (length-parts h (fits_at kind bytes fits long).key) ∙ front)
+    sym (ap (take 64) (spelled_parts h) ∙ take_at (concat (parts_of h)) (zeros 8) 64 (length-parts h (fits_at kind bytes fits long).key)
+    ∙ front)
 
-pub was_written : (sectors group : ℕ) (bytes : List ℕ) (h : SlotRecord) → AreBytes bytes → 72 ≤ length bytes → slot_in sectors group bytes ≡ Some h
+pub was_written : (sectors group : ℕ) (bytes : List ℕ) (h : SlotRecord) → AreBytes bytes → 72 ≤ length bytes
+    → slot_in sectors group bytes ≡ Some h
     → (take 64 bytes ≡ take 64 (slot_bytes h)) × FitsSlot h × IsSlot sectors group h
 was_written sectors group bytes h fits long e =
     let found = read_from sectors group (kind_said (kind_at bytes)) bytes h e in
@@ -230,7 +248,8 @@ bytes_at-take : (len offset n : ℕ) (bytes : List ℕ) → offset + len ≤ n �
 unfolding bytes_at
 bytes_at-take len offset n bytes within =
     let there : n ≡ offset + (n - offset) = omega arith in
-    ap (λ (m : ℕ). take len (drop offset (take m bytes))) there ∙ ap (take len) (drop-take offset (n - offset) bytes) ∙ take-take len (n - offset) (drop offset bytes) (omega arith)
+    ap (λ (m : ℕ). take len (drop offset (take m bytes))) there ∙ ap (take len) (drop-take offset (n - offset) bytes)
+    ∙ take-take len (n - offset) (drop offset bytes) (omega arith)
 
 number_at-take : (len offset n : ℕ) (bytes : List ℕ) → offset + len ≤ n → number_at len offset (take n bytes) ≡ number_at len offset bytes
 unfolding number_at
@@ -242,7 +261,8 @@ fields_first kind bytes =
     (number_at-take 4 0 64 bytes (omega arith)) (number_at-take 4 4 64 bytes (omega arith)) (number_at-take 4 12 64 bytes (omega arith))
     (bytes_at-take 32 16 64 bytes (omega arith)) (number_at-take 8 48 64 bytes (omega arith)) (number_at-take 8 56 64 bytes (omega arith))
 
-slot_of-first : (sectors group : ℕ) (o : Option SlotKind) (bytes : List ℕ) → slot_of sectors group o (take 64 bytes) ≡ slot_of sectors group o bytes
+slot_of-first : (sectors group : ℕ) (o : Option SlotKind) (bytes : List ℕ)
+    → slot_of sectors group o (take 64 bytes) ≡ slot_of sectors group o bytes
 slot_of-first sectors group None bytes = refl
 slot_of-first sectors group (Some kind) bytes = ap (in_range sectors group) (fields_first kind bytes)
 
@@ -266,10 +286,12 @@ kind_is Plain number e = inl e
 kind_is Flagged number e = inr e
 
 -- the ranges are the same whatever the kind
-of_any_kind : (sectors group : ℕ) (one other : SlotKind) (bytes : List ℕ) → IsSlot sectors group (slot_at one bytes) → IsSlot sectors group (slot_at other bytes)
+of_any_kind : (sectors group : ℕ) (one other : SlotKind) (bytes : List ℕ) → IsSlot sectors group (slot_at one bytes)
+    → IsSlot sectors group (slot_at other bytes)
 of_any_kind sectors group one other bytes is = record { lane = is.lane; slot = is.slot; len = is.len; place = is.place; birth = is.birth }
 
-form_says : (sectors group : ℕ) (bytes : List ℕ) → IsSlotForm sectors group bytes → (h : SlotRecord) × (slot_in sectors group bytes ≡ Some h)
+form_says : (sectors group : ℕ) (bytes : List ℕ) → IsSlotForm sectors group bytes
+    → (h : SlotRecord) × (slot_in sectors group bytes ≡ Some h)
 form_says sectors group bytes form =
     let found = kind_found (kind_at bytes) form.kind in
     let h : SlotRecord = slot_at found.0 bytes in
@@ -278,7 +300,8 @@ form_says sectors group bytes form =
 says_form : (sectors group : ℕ) (bytes : List ℕ) (h : SlotRecord) → slot_in sectors group bytes ≡ Some h → IsSlotForm sectors group bytes
 says_form sectors group bytes h e =
     let found = read_from sectors group (kind_said (kind_at bytes)) bytes h e in
-    let ranges : IsSlot sectors group (slot_at found.0 bytes) = subst (λ (g : SlotRecord). IsSlot sectors group g) (sym found.1.1) found.1.2 in
+    let ranges : IsSlot sectors group (slot_at found.0 bytes) = subst (λ (g : SlotRecord). IsSlot sectors group g)
+    (sym found.1.1) found.1.2 in
     record {
       kind = kind_is found.0 (kind_at bytes) (kind_said-from (kind_at bytes) found.0 found.1.0);
       ranges = of_any_kind sectors group found.0 Plain bytes ranges;

@@ -25,7 +25,8 @@ use Rattle.table_state.proofs.TableBack.{table_back, unique_rises, duplicate_ris
 use Rattle.table_state.proofs.Spelled.{slots_spelled, slots_long, entries_spelled, entries_long, changes_spelled, changes_long}
 
 -- places that are open on a disk are open on a longer one
-pub open_wider : (sectors longer : ℕ) → sectors ≤ longer → (named places : List ℕ) → AreOpen sectors named places → AreOpen longer named places
+pub open_wider : (sectors longer : ℕ) → sectors ≤ longer → (named places : List ℕ) → AreOpen sectors named places
+    → AreOpen longer named places
 open_wider sectors longer le named [] all = tt
 open_wider sectors longer le named (place ∷ places) all =
     let here = is_open-parts sectors named place all.0 in
@@ -45,11 +46,13 @@ record FiveParts (parts : List ChainPart) (a b c d e : List (List ℕ)) : Type 0
   pub at_e : List ℕ
   pub are : parts ≡ part_of at_a a ∷ part_of at_b b ∷ part_of at_c c ∷ part_of at_d d ∷ part_of at_e e ∷ []
 
-same_parts : (p p' q q' r r' s s' t t' : ChainPart) → p ≡ p' → q ≡ q' → r ≡ r' → s ≡ s' → t ≡ t' → p ∷ q ∷ r ∷ s ∷ t ∷ [] ≡ p' ∷ q' ∷ r' ∷ s' ∷ t' ∷ []
+same_parts : (p p' q q' r r' s s' t t' : ChainPart) → p ≡ p' → q ≡ q' → r ≡ r' → s ≡ s' → t ≡ t'
+    → p ∷ q ∷ r ∷ s ∷ t ∷ [] ≡ p' ∷ q' ∷ r' ∷ s' ∷ t' ∷ []
 same_parts p p' q q' r r' s s' t t' ep eq er es et = cc
 
 -- parts with five lists of records are five
-five_parts : (parts : List ChainPart) (a b c d e : List (List ℕ)) → map (λ part. part.records) parts ≡ a ∷ b ∷ c ∷ d ∷ e ∷ [] → FiveParts parts a b c d e
+five_parts : (parts : List ChainPart) (a b c d e : List (List ℕ)) → map (λ part. part.records) parts ≡ a ∷ b ∷ c ∷ d ∷ e ∷ []
+    → FiveParts parts a b c d e
 five_parts [] a b c d e same = absurd (cc same)
 five_parts (p ∷ []) a b c d e same = absurd (cc same)
 five_parts (p ∷ q ∷ []) a b c d e same = absurd (cc same)
@@ -61,7 +64,8 @@ five_parts (p ∷ q ∷ r ∷ s ∷ t ∷ []) a b c d e same = record {
   at_c = r.places;
   at_d = s.places;
   at_e = t.places;
-  are = same_parts p _ q _ r _ s _ t _ (ap (part_of p.places) (nth 0)) (ap (part_of q.places) (nth 1)) (ap (part_of r.places) (nth 2)) (ap (part_of s.places) (nth 3)) (ap (part_of t.places) (nth 4));
+  are = same_parts p _ q _ r _ s _ t _ (ap (part_of p.places) (nth 0)) (ap (part_of q.places) (nth 1)) (ap (part_of r.places) (nth 2))
+      (ap (part_of s.places) (nth 3)) (ap (part_of t.places) (nth 4));
 }
   where
     nth : (i : ℕ) → get_or (p.records ∷ q.records ∷ r.records ∷ s.records ∷ t.records ∷ []) i [] ≡ get_or (a ∷ b ∷ c ∷ d ∷ e ∷ []) i []
@@ -83,10 +87,12 @@ joined a b c d e = simp (append_assoc, append-nil)
 abbrev pool_made : List Pointer → List Mode → Option ℕ → ℕ → Pool
 pool_made pointers modes quota group = record { pointers = pointers; modes = modes; quota = quota; group = group }
 
-same_pool : (p p' : List Pointer) (m m' : List Mode) (q q' : Option ℕ) (group : ℕ) → p ≡ p' → m ≡ m' → q ≡ q' → pool_made p m q group ≡ pool_made p' m' q' group
+same_pool : (p p' : List Pointer) (m m' : List Mode) (q q' : Option ℕ) (group : ℕ) → p ≡ p' → m ≡ m' → q ≡ q'
+    → pool_made p m q group ≡ pool_made p' m' q' group
 same_pool p p' m m' q q' group ep em eq = cc
 
-module _ (tag sectors group : ℕ) (slots : List SlotRecord) (table : TableState) (modes : List Mode) (quota : Option ℕ) (can : CanBeKept sectors group slots table) where
+module _ (tag sectors group : ℕ) (slots : List SlotRecord) (table : TableState) (modes : List Mode) (quota : Option ℕ)
+    (can : CanBeKept sectors group slots table) where
   abbrev seal_with : List ChainPart → Seal
   seal_with parts = seal_of tag sectors group modes quota table (roots_of parts) (length (places_in parts))
 
@@ -107,7 +113,9 @@ module _ (tag sectors group : ℕ) (slots : List SlotRecord) (table : TableState
 
   -- the five chains are read one behind the other
   read_five : (c : Image) (p q r s t : List ℕ) → length c ≤ 2 ^ 64
-      → let parts : List ChainPart = part_of p (map slot_bytes slots) ∷ part_of q (map entry_bytes (unique_in table.zap)) ∷ part_of r (map entry_bytes (duplicate_in table.zap)) ∷ part_of s (map record_bytes table.active) ∷ part_of t (map record_bytes table.flush) ∷ [] in
+      → let parts : List ChainPart = part_of p (map slot_bytes slots) ∷ part_of q (map entry_bytes (unique_in table.zap)) ∷ part_of r
+      (map entry_bytes (duplicate_in table.zap)) ∷ part_of s (map record_bytes table.active) ∷ part_of t
+      (map record_bytes table.flush) ∷ [] in
       AreHeld c parts → IsRead c (seal_with parts) (flat_with parts)
   read_five c p q r s t small are =
       let at_p = open_places-parts (length c) [] p (q ++ (r ++ (s ++ (t ++ [])))) are.places_open in
@@ -125,12 +133,17 @@ module _ (tag sectors group : ℕ) (slots : List SlotRecord) (table : TableState
         duplicate = map entry_bytes (duplicate_in table.zap);
         active = map record_bytes table.active;
         flushing = map record_bytes table.flush;
-        first = chain_is_read_back c (length c) [] p (map slot_bytes slots) are.some are.pages.0 (slots_long slots can.slots_fit) at_p.0 small are.held.0;
-        second = chain_is_read_back c (length c) p q (map entry_bytes (unique_in table.zap)) are.some are.pages.1.0 (entries_long (unique_in table.zap) unique_fits) at_q.0 small are.held.1.0;
-        third = chain_is_read_back c (length c) (p ++ q) r (map entry_bytes (duplicate_in table.zap)) are.some are.pages.1.1.0 (entries_long (duplicate_in table.zap) duplicate_fits) at_r.0 small are.held.1.1.0;
-        fourth = chain_is_read_back c (length c) ((p ++ q) ++ r) s (map record_bytes table.active) are.some are.pages.1.1.1.0 (changes_long table.active can.active_fits) at_s.0 small are.held.1.1.1.0;
+        first = chain_is_read_back c (length c) [] p (map slot_bytes slots) are.some are.pages.0
+            (slots_long slots can.slots_fit) at_p.0 small are.held.0;
+        second = chain_is_read_back c (length c) p q (map entry_bytes (unique_in table.zap)) are.some are.pages.1.0
+            (entries_long (unique_in table.zap) unique_fits) at_q.0 small are.held.1.0;
+        third = chain_is_read_back c (length c) (p ++ q) r (map entry_bytes (duplicate_in table.zap)) are.some are.pages.1.1.0
+            (entries_long (duplicate_in table.zap) duplicate_fits) at_r.0 small are.held.1.1.0;
+        fourth = chain_is_read_back c (length c) ((p ++ q) ++ r) s (map record_bytes table.active) are.some are.pages.1.1.1.0
+            (changes_long table.active can.active_fits) at_s.0 small are.held.1.1.1.0;
         fifth =
-            chain_is_read_back c (length c) (((p ++ q) ++ r) ++ s) t (map record_bytes table.flush) are.some are.pages.1.1.1.1.0 (changes_long table.flush can.flush_fits) at_t.0 small are.held.1.1.1.1.0
+            chain_is_read_back c (length c) (((p ++ q) ++ r) ++ s) t (map record_bytes table.flush) are.some are.pages.1.1.1.1.0
+            (changes_long table.flush can.flush_fits) at_t.0 small are.held.1.1.1.1.0
             ∙ ap (λ (named : List ℕ). Some (record { named = named; records = map record_bytes table.flush })) (joined p q r s t);
         slots_spelled = slots_spelled sectors group slots can.slots_within can.slots_fit;
         unique_spelled = entries_spelled (unique_in table.zap) unique_fits unique_lengths;
@@ -139,10 +152,13 @@ module _ (tag sectors group : ℕ) (slots : List SlotRecord) (table : TableState
         flushing_spelled = changes_spelled table.flush can.flush_fits can.flush_lengths;
       }
 
-  read_parts : (c : Image) (parts : List ChainPart) → length c ≤ 2 ^ 64 → map (λ part. part.records) parts ≡ records_in slots table → AreHeld c parts → IsRead c (seal_with parts) (flat_with parts)
+  read_parts : (c : Image) (parts : List ChainPart) → length c ≤ 2 ^ 64 → map (λ part. part.records) parts ≡ records_in slots table
+      → AreHeld c parts → IsRead c (seal_with parts) (flat_with parts)
   read_parts c parts small spelled =
-      let five = five_parts parts (map slot_bytes slots) (map entry_bytes (unique_in table.zap)) (map entry_bytes (duplicate_in table.zap)) (map record_bytes table.active) (map record_bytes table.flush) spelled in
-      subst (λ (ps : List ChainPart). AreHeld c ps → IsRead c (seal_with ps) (flat_with ps)) (sym five.are) (read_five c five.at_a five.at_b five.at_c five.at_d five.at_e small)
+      let five = five_parts parts (map slot_bytes slots) (map entry_bytes (unique_in table.zap)) (map entry_bytes (duplicate_in table.zap))
+      (map record_bytes table.active) (map record_bytes table.flush) spelled in
+      subst (λ (ps : List ChainPart). AreHeld c ps → IsRead c (seal_with ps) (flat_with ps)) (sym five.are)
+      (read_five c five.at_a five.at_b five.at_c five.at_d five.at_e small)
 
   -- what is read keeps the rules together
   whole_with : (parts : List ChainPart) → AreOpen sectors [] (places_in parts) → HoldTogether (seal_with parts) (flat_with parts)
@@ -164,18 +180,23 @@ module _ (tag sectors group : ℕ) (slots : List SlotRecord) (table : TableState
 
   table_again : (parts : List ChainPart) → table_in (seal_with parts) (flat_with parts) ≡ table
   table_again parts =
-      table_back table (seal_with parts) (flat_with parts) can.sorted refl refl refl refl refl (seal_checkpoint_back tag sectors group modes quota table (roots_of parts) (length (places_in parts)))
+      table_back table (seal_with parts) (flat_with parts) can.sorted refl refl refl refl refl
+      (seal_checkpoint_back tag sectors group modes quota table (roots_of parts) (length (places_in parts)))
 
-  pool_again : (image c : Image) (contents : List Stored) (parts : List ChainPart) → SameBlocks (with_blocks contents image) c slots → pool_after image contents slots table modes quota group ≡ pool_in c (seal_with parts) (flat_with parts)
+  pool_again : (image c : Image) (contents : List Stored) (parts : List ChainPart) → SameBlocks (with_blocks contents image) c slots
+      → pool_after image contents slots table modes quota group ≡ pool_in c (seal_with parts) (flat_with parts)
   pool_again image c contents parts blocks =
       same_pool _ _ _ _ _ _ group
-      (pointers_kept (with_blocks contents image) c table slots blocks ∙ ap (λ (t : TableState). map (pointer_of c t) slots) (sym (table_again parts)))
+      (pointers_kept (with_blocks contents image) c table slots blocks
+      ∙ ap (λ (t : TableState). map (pointer_of c t) slots) (sym (table_again parts)))
       (sym (seal_modes_back tag sectors group modes quota table (roots_of parts) (length (places_in parts))))
       (sym (seal_quota_back tag sectors group modes quota table (roots_of parts) (length (places_in parts))))
 
   -- an image with the group's seal, chains and blocks stands for the pool of the group
-  pub sealed_stands : (image c : Image) (contents : List Stored) (parts : List ChainPart) → AreParts sectors slots table parts → CanStand sectors (places_in parts) (pool_after image contents slots table modes quota group) table
-      → length c ≤ 2 ^ 64 → IsSealedImage tag sectors group image c slots table modes quota contents parts → StandsFor tag c (pool_after image contents slots table modes quota group) table
+  pub sealed_stands : (image c : Image) (contents : List Stored) (parts : List ChainPart) → AreParts sectors slots table parts
+      → CanStand sectors (places_in parts) (pool_after image contents slots table modes quota group) table
+      → length c ≤ 2 ^ 64 → IsSealedImage tag sectors group image c slots table modes quota contents parts
+      → StandsFor tag c (pool_after image contents slots table modes quota group) table
   sealed_stands image c contents parts are stand small sealed = record {
     seal = seal_with parts;
     flat = flat_with parts;
@@ -183,7 +204,8 @@ module _ (tag sectors group : ℕ) (slots : List SlotRecord) (table : TableState
     formed =
         seal_is_formed tag sectors group modes quota table (roots_of parts) (length (places_in parts)) (length c)
         (record { enough = can.enough; few = can.few; there = sealed.there; first = can.first; last = can.last; beside = can.checkpoint });
-    read = read_parts c parts small are.spelled (record { pages = are.pages; places_open = open_wider sectors (length c) sealed.there [] (places_in parts) are.places_open; some = omega (arith, can.enough, sealed.there); held = sealed.held });
+    read = read_parts c parts small are.spelled
+        (record { pages = are.pages; places_open = open_wider sectors (length c) sealed.there [] (places_in parts) are.places_open; some = omega (arith, can.enough, sealed.there); held = sealed.held });
     whole = whole_with parts are.places_open;
     table_is = sym (table_again parts);
     pool_is = pool_again image c contents parts sealed.blocks;
@@ -196,11 +218,13 @@ module _ (tag sectors group : ℕ) (slots : List SlotRecord) (table : TableState
     waiting_clear = stand.waiting_clear;
   }
 
-  module _ (image c : Image) (contents : List Stored) (parts : List ChainPart) (are : AreParts sectors slots table parts) (stand : CanStand sectors (places_in parts) (pool_after image contents slots table modes quota group) table)
+  module _ (image c : Image) (contents : List Stored) (parts : List ChainPart) (are : AreParts sectors slots table parts)
+      (stand : CanStand sectors (places_in parts) (pool_after image contents slots table modes quota group) table)
       (small : length c ≤ 2 ^ 64) (sealed : IsSealedImage tag sectors group image c slots table modes quota contents parts)
     where
       -- by this seal
-      pub sealed_by : (sealed_stands image c contents parts are stand small sealed).seal ≡ seal_of tag sectors group modes quota table (roots_of parts) (length (places_in parts))
+      pub sealed_by : (sealed_stands image c contents parts are stand small sealed).seal ≡ seal_of tag sectors group modes quota table
+          (roots_of parts) (length (places_in parts))
       unfolding sealed_stands
       sealed_by = refl
 

@@ -37,17 +37,23 @@ module _ (seal : Seal) (flat : Flat) (whole : HoldTogether seal flat) where
     zap_rising = rising_fold entries_put flat.duplicate flat.unique whole.unique_rising;
     zap_counted =
         all_fold entries_put (λ entry. nat_lt 0 entry.home.count ≡ true) flat.duplicate flat.unique
-        (all_from (λ entry. 1 < entry.home.count) (λ entry. nat_lt 0 entry.home.count ≡ true) (λ entry more. lt-ltb 0 entry.home.count (omega arith)) flat.duplicate whole.counted_more)
-        (all_from (λ entry. entry.home.count ≡ 1) (λ entry. nat_lt 0 entry.home.count ≡ true) (λ entry once. lt-ltb 0 entry.home.count (omega arith)) flat.unique whole.counted_once);
-    flush_rising = pairs_filter (λ (a b : Change). is_lt (key_cmp (key_in a) (key_in b)) ≡ true) is_left (last_changes flat.flushing) (rising_fold changes_put flat.flushing [] tt);
+        (all_from (λ entry. 1 < entry.home.count) (λ entry. nat_lt 0 entry.home.count ≡ true)
+        (λ entry more. lt-ltb 0 entry.home.count (omega arith)) flat.duplicate whole.counted_more)
+        (all_from (λ entry. entry.home.count ≡ 1) (λ entry. nat_lt 0 entry.home.count ≡ true)
+        (λ entry once. lt-ltb 0 entry.home.count (omega arith)) flat.unique whole.counted_once);
+    flush_rising = pairs_filter (λ (a b : Change). is_lt (key_cmp (key_in a) (key_in b)) ≡ true) is_left (last_changes flat.flushing)
+        (rising_fold changes_put flat.flushing [] tt);
     active_rising = rising_fold changes_put flat.active [] tt;
     logs_apart =
         all_tested (λ change. change_at (key_in change) (last_changes flat.active) ≡ None) is_left
-        (λ change left. missing_none (change_at (key_in change) (last_changes flat.active)) (and_parts (is_past (checkpoint_in seal) (key_in change)) (is_missing (change_at (key_in change) (last_changes flat.active))) left).1)
+        (λ change left. missing_none (change_at (key_in change) (last_changes flat.active))
+        (and_parts (is_past (checkpoint_in seal) (key_in change))
+        (is_missing (change_at (key_in change) (last_changes flat.active))) left).1)
         (last_changes flat.flushing);
     past =
         all_tested (λ change. is_past (checkpoint_in seal) (key_in change) ≡ true) is_left
-        (λ change left. (and_parts (is_past (checkpoint_in seal) (key_in change)) (is_missing (change_at (key_in change) (last_changes flat.active))) left).0)
+        (λ change left. (and_parts (is_past (checkpoint_in seal) (key_in change))
+        (is_missing (change_at (key_in change) (last_changes flat.active))) left).0)
         (last_changes flat.flushing);
   }
 
@@ -55,7 +61,8 @@ module _ (seal : Seal) (flat : Flat) (whole : HoldTogether seal flat) where
   pub table_in_within : IsTableWithin seal.sectors seal.group (table_in seal flat)
   table_in_within = record {
     zap = all_fold entries_put (IsWithin seal.sectors seal.group) flat.duplicate flat.unique whole.duplicate_within whole.unique_within;
-    flush = all_filter (IsChangeWithin seal.sectors seal.group) is_left (last_changes flat.flushing) (all_fold changes_put (IsChangeWithin seal.sectors seal.group) flat.flushing [] whole.flushing_within tt);
+    flush = all_filter (IsChangeWithin seal.sectors seal.group) is_left (last_changes flat.flushing)
+        (all_fold changes_put (IsChangeWithin seal.sectors seal.group) flat.flushing [] whole.flushing_within tt);
     active = all_fold changes_put (IsChangeWithin seal.sectors seal.group) flat.active [] whole.active_within tt;
   }
 
@@ -65,10 +72,12 @@ counted_more_or_once : (count : ℕ) → nat_lt 0 count ≡ true → nat_lt 1 co
 counted_more_or_once count counted = grind (arith, nat_tests)
 
 -- a sorted table whose homes are counted comes back from its two classes
-pub classes_back : (zap : List Entry) → AreRising zap → AllByRecursion (λ entry. nat_lt 0 entry.home.count ≡ true) zap → fold (λ entries entry. set_entry entry entries) (unique_in zap) (duplicate_in zap) ≡ zap
+pub classes_back : (zap : List Entry) → AreRising zap → AllByRecursion (λ entry. nat_lt 0 entry.home.count ≡ true) zap
+    → fold (λ entries entry. set_entry entry entries) (unique_in zap) (duplicate_in zap) ≡ zap
 classes_back zap rising counted =
     split_back entries_put (λ entry. entry.home.count == 1) (λ entry. nat_lt 1 entry.home.count) zap
-    (all_from (λ entry. nat_lt 0 entry.home.count ≡ true) (λ entry. nat_lt 1 entry.home.count ≡ not (entry.home.count == 1)) (λ entry. counted_more_or_once entry.home.count) zap counted) rising
+    (all_from (λ entry. nat_lt 0 entry.home.count ≡ true) (λ entry. nat_lt 1 entry.home.count ≡ not (entry.home.count == 1))
+    (λ entry. counted_more_or_once entry.home.count) zap counted) rising
 
 -- a sorted log is its own last changes
 pub last_back : (log : List Change) → AreChangesRising log → last_changes log ≡ log
@@ -77,7 +86,8 @@ last_back log rising = fold_back changes_put log rising
 abbrev table_of : List Entry → List Change → List Change → ℕ → Option Key → TableState
 table_of zap flush active age checkpoint = record { zap = zap; flush = flush; active = active; age = age; checkpoint = checkpoint }
 
-same_table : (zap zap' : List Entry) (flush flush' active active' : List Change) (age age' : ℕ) (checkpoint checkpoint' : Option Key) → zap ≡ zap' → flush ≡ flush' → active ≡ active' → age ≡ age' → checkpoint ≡ checkpoint'
+same_table : (zap zap' : List Entry) (flush flush' active active' : List Change) (age age' : ℕ) (checkpoint checkpoint' : Option Key)
+    → zap ≡ zap' → flush ≡ flush' → active ≡ active' → age ≡ age' → checkpoint ≡ checkpoint'
     → table_of zap flush active age checkpoint ≡ table_of zap' flush' active' age' checkpoint'
 same_table zap zap' flush flush' active active' age age' checkpoint checkpoint' ez ef ea eg ec = cc
 
@@ -86,26 +96,34 @@ abbrev left_of : Option Key → List Change → List Change → List Change
 left_of checkpoint active log = filter (λ change. is_past checkpoint (key_in change) && is_missing (change_at (key_in change) active)) log
 
 -- a sorted table comes back from an image that keeps its lists
-pub table_back : (table : TableState) (seal : Seal) (flat : Flat) → IsTable table → flat.unique ≡ unique_in table.zap → flat.duplicate ≡ duplicate_in table.zap → flat.active ≡ table.active
+pub table_back : (table : TableState) (seal : Seal) (flat : Flat) → IsTable table → flat.unique ≡ unique_in table.zap
+    → flat.duplicate ≡ duplicate_in table.zap → flat.active ≡ table.active
     → flat.flushing ≡ table.flush → seal.age ≡ table.age → checkpoint_in seal ≡ table.checkpoint → table_in seal flat ≡ table
 table_back table seal flat is unique duplicate active flushing age checkpoint =
     same_table _ _ _ _ _ _ _ _ _ _
-    (ap (λ (xs : List Entry). fold (λ entries entry. set_entry entry entries) xs flat.duplicate) unique ∙ ap (λ (xs : List Entry). fold (λ entries entry. set_entry entry entries) (unique_in table.zap) xs) duplicate ∙ classes_back table.zap is.zap_rising is.zap_counted)
+    (ap (λ (xs : List Entry). fold (λ entries entry. set_entry entry entries) xs flat.duplicate) unique
+    ∙ ap (λ (xs : List Entry). fold (λ entries entry. set_entry entry entries) (unique_in table.zap) xs) duplicate
+    ∙ classes_back table.zap is.zap_rising is.zap_counted)
     (
     ap (λ (c : Option Key). left_of c (last_changes flat.active) (last_changes flat.flushing)) checkpoint
     ∙ ap (λ (log : List Change). left_of table.checkpoint log (last_changes flat.flushing)) active_is
-    ∙ ap (λ (log : List Change). left_of table.checkpoint table.active log) (ap last_changes flushing ∙ last_back table.flush is.flush_rising)
-    ∙ filter_whole (λ change. is_past table.checkpoint (key_in change) && is_missing (change_at (key_in change) table.active)) table.flush each_left
+    ∙ ap (λ (log : List Change). left_of table.checkpoint table.active log)
+    (ap last_changes flushing ∙ last_back table.flush is.flush_rising)
+    ∙ filter_whole (λ change. is_past table.checkpoint (key_in change) && is_missing (change_at (key_in change) table.active)) table.flush
+    each_left
     )
     active_is age checkpoint
   where
     active_is : last_changes flat.active ≡ table.active
     active_is = ap last_changes active ∙ last_back table.active is.active_rising
 
-    each_left : AllByRecursion (λ change. (is_past table.checkpoint (key_in change) && is_missing (change_at (key_in change) table.active)) ≡ true) table.flush
+    each_left : AllByRecursion
+        (λ change. (is_past table.checkpoint (key_in change) && is_missing (change_at (key_in change) table.active)) ≡ true) table.flush
     each_left =
-        all_from_both (λ change. is_past table.checkpoint (key_in change) ≡ true) (λ change. change_at (key_in change) table.active ≡ None) (λ change. (is_past table.checkpoint (key_in change) && is_missing (change_at (key_in change) table.active)) ≡ true)
-        (λ change past missing. and_from (is_past table.checkpoint (key_in change)) (is_missing (change_at (key_in change) table.active)) past (ap is_missing missing)) table.flush is.past is.logs_apart
+        all_from_both (λ change. is_past table.checkpoint (key_in change) ≡ true) (λ change. change_at (key_in change) table.active ≡ None)
+        (λ change. (is_past table.checkpoint (key_in change) && is_missing (change_at (key_in change) table.active)) ≡ true)
+        (λ change past missing. and_from (is_past table.checkpoint (key_in change))
+        (is_missing (change_at (key_in change) table.active)) past (ap is_missing missing)) table.flush is.past is.logs_apart
 
 -- ---- The two classes
 
@@ -113,13 +131,16 @@ pub unique_rises : (zap : List Entry) → AreRising zap → AreRising (unique_in
 unique_rises zap rising = pairs_filter (λ (a b : Entry). is_lt (key_cmp a.key b.key) ≡ true) (λ entry. entry.home.count == 1) zap rising
 
 pub duplicate_rises : (zap : List Entry) → AreRising zap → AreRising (duplicate_in zap)
-duplicate_rises zap rising = pairs_filter (λ (a b : Entry). is_lt (key_cmp a.key b.key) ≡ true) (λ entry. nat_lt 1 entry.home.count) zap rising
+duplicate_rises zap rising = pairs_filter (λ (a b : Entry). is_lt (key_cmp a.key b.key) ≡ true)
+    (λ entry. nat_lt 1 entry.home.count) zap rising
 
 pub unique_counted : (zap : List Entry) → AllByRecursion (λ entry. entry.home.count ≡ 1) (unique_in zap)
-unique_counted zap = all_tested (λ entry. entry.home.count ≡ 1) (λ entry. entry.home.count == 1) (λ entry once. eqb-true entry.home.count 1 once) zap
+unique_counted zap = all_tested (λ entry. entry.home.count ≡ 1) (λ entry. entry.home.count == 1)
+    (λ entry once. eqb-true entry.home.count 1 once) zap
 
 pub duplicate_counted : (zap : List Entry) → AllByRecursion (λ entry. 1 < entry.home.count) (duplicate_in zap)
-duplicate_counted zap = all_tested (λ entry. 1 < entry.home.count) (λ entry. nat_lt 1 entry.home.count) (λ entry more. ltb-true 1 entry.home.count more) zap
+duplicate_counted zap = all_tested (λ entry. 1 < entry.home.count) (λ entry. nat_lt 1 entry.home.count)
+    (λ entry more. ltb-true 1 entry.home.count more) zap
 
 pub unique_keeps : (P : Entry → Type 0) (zap : List Entry) → AllByRecursion P zap → AllByRecursion P (unique_in zap)
 unique_keeps P zap all = all_filter P (λ entry. entry.home.count == 1) zap all
@@ -130,12 +151,16 @@ duplicate_keeps P zap all = all_filter P (λ entry. nat_lt 1 entry.home.count) z
 -- no key is in both classes
 pub one_class : (zap : List Entry) → AreRising zap → AllByRecursion (λ entry. entry_at entry.key (duplicate_in zap) ≡ None) (unique_in zap)
 one_class zap rising =
-    all_from (λ entry. AllByRecursion (λ (other : Entry). key_eq other.key entry.key ≡ false) (duplicate_in zap)) (λ entry. entry_at entry.key (duplicate_in zap) ≡ None)
-    (λ entry apart. ap (option_map (λ (e : Entry). e.home)) (none_found (λ (other : Entry). key_eq other.key entry.key) (duplicate_in zap) apart))
+    all_from (λ entry. AllByRecursion (λ (other : Entry). key_eq other.key entry.key ≡ false) (duplicate_in zap))
+    (λ entry. entry_at entry.key (duplicate_in zap) ≡ None)
+    (λ entry apart. ap (option_map (λ (e : Entry). e.home))
+    (none_found (λ (other : Entry). key_eq other.key entry.key) (duplicate_in zap) apart))
     (unique_in zap)
-    (classes_apart (λ (a b : Entry). key_eq b.key a.key ≡ false) (λ a b apart. key_eq-symm a.key b.key ∙ apart) (λ entry. entry.home.count == 1) (λ entry. nat_lt 1 entry.home.count) zap
+    (classes_apart (λ (a b : Entry). key_eq b.key a.key ≡ false) (λ a b apart. key_eq-symm a.key b.key ∙ apart)
+    (λ entry. entry.home.count == 1) (λ entry. nat_lt 1 entry.home.count) zap
     (all_each (λ entry. (entry.home.count == 1) ≡ true → nat_lt 1 entry.home.count ≡ true → ⊥) (λ entry. never_both entry.home.count) zap)
-    (pairs_from (λ (a b : Entry). is_lt (key_cmp a.key b.key) ≡ true) (λ (a b : Entry). key_eq b.key a.key ≡ false) (λ a b below. key_eq-symm b.key a.key ∙ apart_by_order a.key b.key below) zap rising))
+    (pairs_from (λ (a b : Entry). is_lt (key_cmp a.key b.key) ≡ true) (λ (a b : Entry). key_eq b.key a.key ≡ false)
+    (λ a b below. key_eq-symm b.key a.key ∙ apart_by_order a.key b.key below) zap rising))
   where
     never_both : (count : ℕ) → (count == 1) ≡ true → nat_lt 1 count ≡ true → ⊥
     never_both count once more = omega (arith, eqb-true count 1 once, ltb-true 1 count more)

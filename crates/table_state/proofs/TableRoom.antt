@@ -19,7 +19,8 @@ use Rattle.pool_model.proofs.TablePuts.{entries_put, changes_put}
 zap-swapped : (table : TableState) → (swapped table).zap ≡ table.zap
 zap-swapped table = by_due (is_due (aged table))
   where
-    by_due : (b : Bool) → (if b then record table { flush = table.active; active = []; age = 0; checkpoint = None } else aged table).zap ≡ table.zap
+    by_due : (b : Bool) → (if b then record table
+        { flush = table.active; active = []; age = 0; checkpoint = None } else aged table).zap ≡ table.zap
     by_due true = refl
     by_due false = refl
 
@@ -32,37 +33,48 @@ module _ (test : Entry → Bool) where
   passing_flush_entry : (zap : List Entry) (change : Change) → length (filter test (flush_entry zap change)) ≤ length (filter test zap) + 1
   passing_flush_entry zap (changes.Entry entry) = by_count (nat_lt 0 entry.home.count)
     where
-      by_count : (b : Bool) → length (filter test (if b then set_entry entry zap else drop_entry entry.key zap)) ≤ length (filter test zap) + 1
+      by_count : (b : Bool)
+          → length (filter test (if b then set_entry entry zap else drop_entry entry.key zap)) ≤ length (filter test zap) + 1
       by_count true = passing_put entries_put test entry zap
       by_count false = omega (arith, passing_filter test (λ e. not (key_eq e.key entry.key)) zap)
   passing_flush_entry zap (changes.Gone key) = omega (arith, passing_filter test (λ e. not (key_eq e.key key)) zap)
 
-  passing_fold : (log : List Change) (zap : List Entry) → length (filter test (fold flush_entry zap log)) ≤ length (filter test zap) + length log
+  passing_fold : (log : List Change) (zap : List Entry)
+      → length (filter test (fold flush_entry zap log)) ≤ length (filter test zap) + length log
   passing_fold [] zap = omega arith
   passing_fold (change ∷ log) zap = omega (arith, passing_fold log (flush_entry zap change), passing_flush_entry zap change)
 
   -- a sync adds at most as many entries as it flushes changes
-  pub passing_sync : (log : List Change) (table : TableState) → length (filter test (sync_table log table).zap) ≤ length (filter test table.zap) + flush_limit table
+  pub passing_sync : (log : List Change) (table : TableState)
+      → length (filter test (sync_table log table).zap) ≤ length (filter test table.zap) + flush_limit table
   passing_sync log table =
-      subst (λ (zap : List Entry). length (filter test zap) ≤ length (filter test table.zap) + flush_limit table) (sym (zap-swapped (flushed (flush_limit table) (logged log table))))
+      subst (λ (zap : List Entry). length (filter test zap) ≤ length (filter test table.zap) + flush_limit table)
+      (sym (zap-swapped (flushed (flush_limit table) (logged log table))))
       (by_limit (flush_limit table) (logged log table) table.zap (zap-logged log table))
     where
-      by_limit : (limit : ℕ) (t : TableState) (zap : List Entry) → t.zap ≡ zap → length (filter test (flushed limit t).zap) ≤ length (filter test zap) + limit
-      by_limit limit t zap same = omega (arith, passing_fold (take limit t.flush) t.zap, length-take limit t.flush, ap (λ (z : List Entry). length (filter test z)) same)
+      by_limit : (limit : ℕ) (t : TableState) (zap : List Entry) → t.zap ≡ zap
+          → length (filter test (flushed limit t).zap) ≤ length (filter test zap) + limit
+      by_limit limit t zap same = omega
+          (arith, passing_fold (take limit t.flush) t.zap, length-take limit t.flush, ap (λ (z : List Entry). length (filter test z)) same)
 
-pub unique_sync : (log : List Change) (table : TableState) → length (unique_in (sync_table log table).zap) ≤ length (unique_in table.zap) + flush_limit table
+pub unique_sync : (log : List Change) (table : TableState)
+    → length (unique_in (sync_table log table).zap) ≤ length (unique_in table.zap) + flush_limit table
 unique_sync log table = passing_sync (λ entry. entry.home.count == 1) log table
 
-pub duplicate_sync : (log : List Change) (table : TableState) → length (duplicate_in (sync_table log table).zap) ≤ length (duplicate_in table.zap) + flush_limit table
+pub duplicate_sync : (log : List Change) (table : TableState)
+    → length (duplicate_in (sync_table log table).zap) ≤ length (duplicate_in table.zap) + flush_limit table
 duplicate_sync log table = passing_sync (λ entry. nat_lt 1 entry.home.count) log table
 
 -- ---- The logs
 
-logs_logged : (log : List Change) (table : TableState) → length (logged log table).active + length (logged log table).flush ≤ length table.active + length table.flush + length log
+logs_logged : (log : List Change) (table : TableState)
+    → length (logged log table).active + length (logged log table).flush ≤ length table.active + length table.flush + length log
 logs_logged [] table = omega arith
-logs_logged (change ∷ log) table = omega (arith, logs_logged log (log_change table change), length-put changes_put change table.active, length-filter-le (λ c. not (key_eq (key_in c) (key_in change))) table.flush)
+logs_logged (change ∷ log) table = omega
+    (arith, logs_logged log (log_change table change), length-put changes_put change table.active, length-filter-le (λ c. not (key_eq (key_in c) (key_in change))) table.flush)
 
-logs_swapped : (table : TableState) → length (swapped table).active + length (swapped table).flush ≤ length table.active + length table.flush
+logs_swapped : (table : TableState)
+    → length (swapped table).active + length (swapped table).flush ≤ length table.active + length table.flush
 logs_swapped table = by_due (is_due (aged table))
   where
     after : Bool → TableState
@@ -73,8 +85,10 @@ logs_swapped table = by_due (is_due (aged table))
     by_due false = omega arith
 
 -- a sync adds at most its changes to the logs
-pub logs_sync : (log : List Change) (table : TableState) → length (sync_table log table).active + length (sync_table log table).flush ≤ length table.active + length table.flush + length log
-logs_sync log table = omega (arith, logs_swapped (flushed (flush_limit table) (logged log table)), length-drop (flush_limit table) (logged log table).flush, logs_logged log table)
+pub logs_sync : (log : List Change) (table : TableState)
+    → length (sync_table log table).active + length (sync_table log table).flush ≤ length table.active + length table.flush + length log
+logs_sync log table = omega
+    (arith, logs_swapped (flushed (flush_limit table) (logged log table)), length-drop (flush_limit table) (logged log table).flush, logs_logged log table)
 
 -- ---- Pages
 
@@ -89,24 +103,29 @@ pages_for-le n = omega arith
 
 -- the pages that slots and a table take after a sync, by those before it
 pub pages_after : (slots slots' c : ℕ) (log : List Change) (table : TableState) → slots' ≤ slots + c → length log ≤ c
-    → pages_for slots' + table_pages (sync_table log table) ≤ pages_for slots + table_pages table + (2 * pages_for c + 2 * pages_for (flush_limit table) + 1)
+    → pages_for slots' + table_pages
+    (sync_table log table) ≤ pages_for slots + table_pages table + (2 * pages_for c + 2 * pages_for (flush_limit table) + 1)
 pages_after slots slots' c log table slots_within log_within =
     in_all (pages_for slots) (pages_for slots') (pages_for c) (pages_for (flush_limit table)) _ _ _ _ _ _ _ _
     (pages_more slots slots' c slots_within)
     (pages_more (length (unique_in table.zap)) (length (unique_in (sync_table log table).zap)) (flush_limit table) (unique_sync log table))
-    (pages_more (length (duplicate_in table.zap)) (length (duplicate_in (sync_table log table).zap)) (flush_limit table) (duplicate_sync log table))
-    (pages_two (length table.active) (length table.flush) (length (sync_table log table).active) (length (sync_table log table).flush) c (shorter (length table.active + length table.flush) (logs_sync log table)))
+    (pages_more (length (duplicate_in table.zap)) (length (duplicate_in (sync_table log table).zap)) (flush_limit table)
+    (duplicate_sync log table))
+    (pages_two (length table.active) (length table.flush) (length (sync_table log table).active) (length (sync_table log table).flush) c
+    (shorter (length table.active + length table.flush) (logs_sync log table)))
   where
     shorter : (n : ℕ) {m : ℕ} → m ≤ n + length log → m ≤ n + c
     shorter n within = omega (arith, within)
 
-    in_all : (s s' c' l u u' d d' a a' f f' : ℕ) → s' ≤ s + c' → u' ≤ u + l → d' ≤ d + l → a' + f' ≤ a + f + c' + 1 → s' + (u' + d' + a' + f') ≤ s + (u + d + a + f) + (2 * c' + 2 * l + 1)
+    in_all : (s s' c' l u u' d d' a a' f f' : ℕ) → s' ≤ s + c' → u' ≤ u + l → d' ≤ d + l → a' + f' ≤ a + f + c' + 1
+        → s' + (u' + d' + a' + f') ≤ s + (u + d + a + f) + (2 * c' + 2 * l + 1)
     in_all s s' c' l u u' d d' a a' f f' es eu ed eaf = omega arith
 
 -- the same in plain numbers
 pub pages_after_plain : (slots slots' c : ℕ) (log : List Change) (table : TableState) → slots' ≤ slots + c → length log ≤ c
     → pages_for slots' + table_pages (sync_table log table) ≤ pages_for slots + table_pages table + (2 * c + 2 * flush_limit table + 1)
-pages_after_plain slots slots' c log table slots_within log_within = at_most _ _ _ _ _ _ (pages_after slots slots' c log table slots_within log_within) (pages_for-le c) (pages_for-le (flush_limit table))
+pages_after_plain slots slots' c log table slots_within log_within = at_most _ _ _ _ _ _
+    (pages_after slots slots' c log table slots_within log_within) (pages_for-le c) (pages_for-le (flush_limit table))
   where
     at_most : (new old pc pl c' l : ℕ) → new ≤ old + (2 * pc + 2 * pl + 1) → pc ≤ c' → pl ≤ l → new ≤ old + (2 * c' + 2 * l + 1)
     at_most new old pc pl c' l within ec el = omega arith

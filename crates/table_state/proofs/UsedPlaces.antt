@@ -89,7 +89,8 @@ module _ (used : List Bool) (sectors : ℕ) (pages : List ℕ) (pool : Pool) (ta
       → AllByRecursion (λ entry. slice_index_or used entry.home.place true ≡ true) (waiting_in table)
   waiting_used runs =
       all_from (λ (e : Entry). waited e.home.place ≡ true) (λ (e : Entry). slice_index_or used e.home.place true ≡ true)
-      (λ e named. used_if e.home.place (fourth (nat_lt e.home.place 32) (paged e.home.place) (pointed e.home.place) (waited e.home.place) named))
+      (λ e named. used_if e.home.place
+      (fourth (nat_lt e.home.place 32) (paged e.home.place) (pointed e.home.place) (waited e.home.place) named))
       (waiting_in table)
       (own_test (λ (e f : Entry). lies_in e.home.place f.home.place (run_length f.key)) (waiting_in table)
       (all_from (λ (e : Entry). run_length e.key ≡ 1) (λ (e : Entry). lies_in e.home.place e.home.place (run_length e.key) ≡ true)

@@ -84,7 +84,8 @@ abbrev pub with_blocks : List Stored → Image → Image
 with_blocks contents image = fold put_block image contents
 
 -- the pool after a group: the changed slots, with the blocks that stand at their places then, and the settings
-abbrev pub pool_after : Image → (contents : List Stored) → (slots : List SlotRecord) → TableState → List Mode → Option ℕ → (group : ℕ) → Pool
+abbrev pub pool_after : Image → (contents : List Stored) → (slots : List SlotRecord) → TableState → List Mode → Option ℕ → (group : ℕ)
+    → Pool
 pool_after image contents slots table modes quota group = record {
   pointers = map (pointer_of (with_blocks contents image) table) slots;
   modes = modes;

@@ -59,7 +59,8 @@ quota_in seal = if seal.quota_flag == 1 then Some seal.quota else None
 
 -- the checkpoint, whose key counts only where the flag is set
 abbrev pub checkpoint_in : Seal → Option Key
-checkpoint_in seal = if seal.checkpoint_flag == 1 then Some (record { digest = seal.checkpoint_digest; len = seal.checkpoint_len }) else None
+checkpoint_in seal = if seal.checkpoint_flag == 1 then Some
+    (record { digest = seal.checkpoint_digest; len = seal.checkpoint_len }) else None
 
 -- the roots of a seal, in their order
 abbrev pub slots_root : Seal → Option PagePtr

@@ -52,7 +52,8 @@ entry_bytes entry = record_bytes (changes.Entry entry)
 -- the records of the five chains: slots, unique, duplicate, active, flushing
 abbrev pub records_in : List SlotRecord → TableState → List (List (List ℕ))
 records_in slots table =
-    map slot_bytes slots ∷ map entry_bytes (unique_in table.zap) ∷ map entry_bytes (duplicate_in table.zap) ∷ map record_bytes table.active ∷ map record_bytes table.flush ∷ []
+    map slot_bytes slots ∷ map entry_bytes (unique_in table.zap) ∷ map entry_bytes
+    (duplicate_in table.zap) ∷ map record_bytes table.active ∷ map record_bytes table.flush ∷ []
 
 -- what an image keeps then
 abbrev pub flat_of : List SlotRecord → TableState → (pages : List ℕ) → Flat
@@ -128,7 +129,8 @@ changed_slot change pointer = record { lane = change.lane; slot = change.slot; p
 pub record ChangesSlotWithin (sectors group : ℕ) (change : SlotChange) : Type 0 where
   pub lane : change.lane ≤ 15
   pub slot : change.slot ≤ 65_535
-  pub pointer : IfSome change.pointer (λ pointer. (is_slot sectors group (changed_slot change pointer) ≡ true) × FitsSlot (changed_slot change pointer))
+  pub pointer : IfSome change.pointer
+      (λ pointer. (is_slot sectors group (changed_slot change pointer) ≡ true) × FitsSlot (changed_slot change pointer))
 
 -- the pool and the table that an image has to stand for, and no block in a page's sector
 pub record CanStand (sectors : ℕ) (places : List ℕ) (pool : Pool) (table : TableState) : Type 0 where
@@ -148,7 +150,8 @@ abbrev pub SameBlocks : (image c : Image) → List SlotRecord → Type 0
 SameBlocks image c slots = AllByRecursion (λ slot. sector_at c slot.pointer.place ≡ sector_at image slot.pointer.place) slots
 
 -- an image after a group's sync: the group's seal counts, its chains are there, and the blocks of its slots stand as in the old image with the group's blocks
-pub record IsSealedImage (tag sectors group : ℕ) (image c : Image) (slots : List SlotRecord) (table : TableState) (modes : List Mode) (quota : Option ℕ) (contents : List Stored) (parts : List ChainPart) : Type 0 where
+pub record IsSealedImage (tag sectors group : ℕ) (image c : Image) (slots : List SlotRecord) (table : TableState) (modes : List Mode)
+    (quota : Option ℕ) (contents : List Stored) (parts : List ChainPart) : Type 0 where
   pub counts : newest image_version c ≡ Some (seal_of tag sectors group modes quota table (roots_of parts) (length (places_in parts)))
   pub there : sectors ≤ length c
   pub held : HoldsParts c parts

@@ -48,7 +48,9 @@ pub record AreSpelt (slots : List SlotRecord) (table : TableState) : Type 0 wher
   pub active : AllByRecursion ChangeFits table.active
 
 -- what is no block of the group and isn't used is no place that is named
-no_block_at : (contents : List Stored) (places : List ℕ) (at : ℕ) → AllByRecursion (λ place. list_any (λ stored. stored.place == place) contents ≡ false) places → list_any (λ stored. stored.place == at) contents ≡ true → list_any (λ place. place == at) places ≡ false
+no_block_at : (contents : List Stored) (places : List ℕ) (at : ℕ)
+    → AllByRecursion (λ place. list_any (λ stored. stored.place == place) contents ≡ false) places
+    → list_any (λ stored. stored.place == at) contents ≡ true → list_any (λ place. place == at) places ≡ false
 no_block_at contents [] at none here = refl
 no_block_at contents (place ∷ places) at none here =
     ⊎_elim
@@ -59,11 +61,13 @@ no_block_at contents (place ∷ places) at none here =
     clash : true ≡ false → ⊥
     clash e = cc e
 
-two : {X : Type 0} (P Q S : X → Type 0) → ((x : X) → P x → Q x → S x) → (xs : List X) → AllByRecursion P xs → AllByRecursion Q xs → AllByRecursion S xs
+two : {X : Type 0} (P Q S : X → Type 0) → ((x : X) → P x → Q x → S x) → (xs : List X) → AllByRecursion P xs → AllByRecursion Q xs
+    → AllByRecursion S xs
 two P Q S from [] p q = tt
 two P Q S from (x ∷ xs) p q = (from x p.0 q.0, two P Q S from xs p.1 q.1)
 
-mapped_slots : (P : ℕ → Type 0) (image : Image) (table : TableState) (slots : List SlotRecord) → AllByRecursion (λ slot. P slot.pointer.place) slots → AllByRecursion (λ (p : Pointer). P p.place) (map (pointer_of image table) slots)
+mapped_slots : (P : ℕ → Type 0) (image : Image) (table : TableState) (slots : List SlotRecord)
+    → AllByRecursion (λ slot. P slot.pointer.place) slots → AllByRecursion (λ (p : Pointer). P p.place) (map (pointer_of image table) slots)
 mapped_slots P image table [] all = tt
 mapped_slots P image table (slot ∷ slots) all = (all.0, mapped_slots P image table slots all.1)
 
@@ -74,12 +78,16 @@ default_true (b ∷ used) zero e = e
 default_true (b ∷ used) (suc at) e = default_true used at e
 
 -- a pool in memory that agrees with what an image stands for
-made_held : (c : Image) (next : Held) (pool : Pool) (table : TableState) (tag : ℕ) → next.tag ≡ tag → (state : StandsFor tag c pool table) → next.slots ≡ state.flat.slots → next.pages ≡ state.flat.named → next.sectors ≡ state.seal.sectors
-    → next.table ≡ table → next.used ≡ used_sectors next.sectors next.pages pool table → next.modes ≡ pool.modes → next.quota ≡ pool.quota → next.group ≡ pool.group → IsHeld c next pool table
+made_held : (c : Image) (next : Held) (pool : Pool) (table : TableState) (tag : ℕ) → next.tag ≡ tag → (state : StandsFor tag c pool table)
+    → next.slots ≡ state.flat.slots → next.pages ≡ state.flat.named → next.sectors ≡ state.seal.sectors
+    → next.table ≡ table → next.used ≡ used_sectors next.sectors next.pages pool table → next.modes ≡ pool.modes → next.quota ≡ pool.quota
+    → next.group ≡ pool.group → IsHeld c next pool table
 made_held c next pool table tag same =
     subst
-    (λ t. (state : StandsFor t c pool table) → next.slots ≡ state.flat.slots → next.pages ≡ state.flat.named → next.sectors ≡ state.seal.sectors
-    → next.table ≡ table → next.used ≡ used_sectors next.sectors next.pages pool table → next.modes ≡ pool.modes → next.quota ≡ pool.quota → next.group ≡ pool.group → IsHeld c next pool table)
+    (λ t. (state : StandsFor t c pool table) → next.slots ≡ state.flat.slots → next.pages ≡ state.flat.named
+    → next.sectors ≡ state.seal.sectors
+    → next.table ≡ table → next.used ≡ used_sectors next.sectors next.pages pool table → next.modes ≡ pool.modes → next.quota ≡ pool.quota
+    → next.group ≡ pool.group → IsHeld c next pool table)
     same
     (λ state slots pages sectors tables used modes quota group. record {
       stands = state;
@@ -126,17 +134,21 @@ module _ (held : Held) (closed : PlainClosed) (sound : IsSound held) (range : Is
     first = omega (arith, plan.is_next.group_is);
     last = subst (λ n. n ≤ last_group) (sym plan.is_next.group_is) last;
     used_len =
-        ap length plan.is_next.used_are ∙ length-map (range_with_len 0 held.sectors) (is_used (places_in parts) bare next.table) ∙ length-range_with_len 0 held.sectors ∙ sym plan.is_next.sectors_are;
+        ap length plan.is_next.used_are ∙ length-map (range_with_len 0 held.sectors) (is_used (places_in parts) bare next.table)
+        ∙ length-range_with_len 0 held.sectors ∙ sym plan.is_next.sectors_are;
     ring = λ sector within.
         ap (λ (u : List Bool). slice_index_or u sector true) plan.is_next.used_are
-        ∙ get_or-map-range_with_len (is_used (places_in parts) bare next.table) 0 held.sectors sector sector true (omega (arith, within, sound.enough)) (omega arith)
+        ∙ get_or-map-range_with_len (is_used (places_in parts) bare next.table) 0 held.sectors sector sector true
+        (omega (arith, within, sound.enough)) (omega arith)
         ∙ any_ring _ _ _ _ (lt-ltb sector 32 within);
     slots_within =
         subst (λ (s : List SlotRecord). AllByRecursion (λ slot. is_slot next.sectors next.group slot ≡ true) s) (sym plan.is_next.slots_are)
-        (subst (λ n. AllByRecursion (λ slot. is_slot n next.group slot ≡ true) slots') (sym plan.is_next.sectors_are) (subst (λ n. AllByRecursion (λ slot. is_slot held.sectors n slot ≡ true) slots') (sym plan.is_next.group_is) within'));
+        (subst (λ n. AllByRecursion (λ slot. is_slot n next.group slot ≡ true) slots') (sym plan.is_next.sectors_are)
+        (subst (λ n. AllByRecursion (λ slot. is_slot held.sectors n slot ≡ true) slots') (sym plan.is_next.group_is) within'));
     within =
         subst (IsTableWithin next.sectors next.group) (sym plan.is_next.table_is)
-        (subst (λ n. IsTableWithin n next.group table') (sym plan.is_next.sectors_are) (subst (λ n. IsTableWithin held.sectors n table') (sym plan.is_next.group_is) table_within'));
+        (subst (λ n. IsTableWithin n next.group table') (sym plan.is_next.sectors_are)
+        (subst (λ n. IsTableWithin held.sectors n table') (sym plan.is_next.group_is) table_within'));
     slots_rising =
         subst (λ (s : List SlotRecord). Pairwise (λ a b. stands_before a b ≡ true) s) (sym plan.is_next.slots_are)
         (rising_after closed.slots held.slots sound.slots_rising);
@@ -160,7 +172,8 @@ module _ (held : Held) (closed : PlainClosed) (sound : IsSound held) (range : Is
     pool' = pool_with image held closed
 
     spelt' : AreSpelt slots' table'
-    spelt' = subst (λ (t : TableState). AreSpelt slots' t) plan.is_next.table_is (subst (λ (s : List SlotRecord). AreSpelt s next.table) plan.is_next.slots_are spelt)
+    spelt' = subst (λ (t : TableState). AreSpelt slots' t) plan.is_next.table_is
+        (subst (λ (s : List SlotRecord). AreSpelt s next.table) plan.is_next.slots_are spelt)
 
     can_keep : CanBeKept held.sectors (held.group + 1) slots' table'
     can_keep = record {
@@ -184,7 +197,8 @@ module _ (held : Held) (closed : PlainClosed) (sound : IsSound held) (range : Is
 
     are_parts : AreParts held.sectors slots' table' parts
     are_parts = record {
-      spelled = plan.placed.spelled ∙ ap (λ (s : List SlotRecord). records_in s next.table) plan.is_next.slots_are ∙ ap (records_in slots') plan.is_next.table_is;
+      spelled = plan.placed.spelled ∙ ap (λ (s : List SlotRecord). records_in s next.table) plan.is_next.slots_are
+          ∙ ap (records_in slots') plan.is_next.table_is;
       pages = plan.placed.pages;
       places_open = open';
     }
@@ -239,7 +253,8 @@ module _ (held : Held) (closed : PlainClosed) (sound : IsSound held) (range : Is
             two (λ (s : SlotRecord). is_slot held.sectors (held.group + 1) s ≡ true)
             (λ (s : SlotRecord). IsClear (places_in parts) s.pointer.place)
             (λ (s : SlotRecord). sector_at c s.pointer.place ≡ sector_at (with_blocks closed.contents image) s.pointer.place)
-            (λ s is clear. sealed.blocks s.pointer.place (is_slot-from held.sectors (held.group + 1) s is).place.0 clear) slots' within' clear_slots;
+            (λ s is clear. sealed.blocks s.pointer.place (is_slot-from held.sectors (held.group + 1) s is).place.0 clear) slots' within'
+            clear_slots;
       }
 
       size : length c ≤ 2 ^ 64

@@ -44,7 +44,8 @@ module _ (tag sectors : ℕ) (image : Image) (is : IsImage sectors image) (none 
   module _ (taken : Image) (is_taken : IsTaken 1 image taken) where
     none_behind : (c : Image) → BodyTorn 1 taken c → newest image_version c ≡ None
     none_behind c written =
-        newest_none image_version 1 taken c (omega arith) written.elsewhere (still_none taken is_taken.taking) (written.own is_taken.closed image_version)
+        newest_none image_version 1 taken c (omega arith) written.elsewhere (still_none taken is_taken.taking)
+        (written.own is_taken.closed image_version)
 
     outside_body : (c : Image) → Torn (body_sector 1) taken c → SameOutside 1 image c
     outside_body c torn = record {

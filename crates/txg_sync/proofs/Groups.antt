@@ -36,26 +36,37 @@ both_lists P (x ∷ xs) ys first second = (first.0, both_lists P xs ys first.1 s
 
 open_behind : (sectors : ℕ) (named places : List ℕ) → AreOpen sectors named places → AreBehindRing places
 open_behind sectors named [] all = tt
-open_behind sectors named (place ∷ places) all = ((is_open-parts sectors named place all.0).from, open_behind sectors (named ++ place ∷ []) places all.1)
+open_behind sectors named
+    (place ∷ places) all = ((is_open-parts sectors named place all.0).from, open_behind sectors (named ++ place ∷ []) places all.1)
 
 -- blocks and pages lie behind the ring
-pub group_behind : (sectors : ℕ) (contents : List StoredBlock) (parts : List ChainPart) → ((k : ℕ) (d : StoredBlock) → k < length contents → 32 ≤ (get_or contents k d).place) → AreOpen sectors [] (places_in parts) → AreBehindRing (group_places (map stored_of contents) parts)
+pub group_behind : (sectors : ℕ) (contents : List StoredBlock) (parts : List ChainPart)
+    → ((k : ℕ) (d : StoredBlock) → k < length contents → 32 ≤ (get_or contents k d).place) → AreOpen sectors [] (places_in parts)
+    → AreBehindRing (group_places (map stored_of contents) parts)
 group_behind sectors contents parts behind places =
     both_lists (λ place. 32 ≤ place) (block_places (map stored_of contents)) (places_in parts)
-    (all_mapped (λ place. 32 ≤ place) (λ (s : Stored). s.place) (map stored_of contents) (all_mapped (λ (s : Stored). 32 ≤ s.place) stored_of contents (each_of (λ (s : StoredBlock). 32 ≤ s.place) contents behind)))
+    (all_mapped (λ place. 32 ≤ place) (λ (s : Stored). s.place) (map stored_of contents)
+    (all_mapped (λ (s : Stored). 32 ≤ s.place) stored_of contents (each_of (λ (s : StoredBlock). 32 ≤ s.place) contents behind)))
     (open_behind sectors [] (places_in parts) places)
 
 -- blocks lie on the disk
-pub group_within : (sectors : ℕ) (contents : List StoredBlock) → ((k : ℕ) (d : StoredBlock) → k < length contents → (get_or contents k d).place < sectors) → AllByRecursion (λ stored. stored.place < sectors) (map stored_of contents)
-group_within sectors contents within = all_mapped (λ (s : Stored). s.place < sectors) stored_of contents (each_of (λ (s : StoredBlock). s.place < sectors) contents within)
+pub group_within : (sectors : ℕ) (contents : List StoredBlock)
+    → ((k : ℕ) (d : StoredBlock) → k < length contents → (get_or contents k d).place < sectors)
+    → AllByRecursion (λ stored. stored.place < sectors) (map stored_of contents)
+group_within sectors contents within = all_mapped (λ (s : Stored). s.place < sectors) stored_of contents
+    (each_of (λ (s : StoredBlock). s.place < sectors) contents within)
 
 -- the pointers that were written are the seal's
-pub rooted_is : (seal sealed : Seal) (parts : List ChainPart) (pointers initial : List PagePtr) → sealed ≡ record seal { pointers = pointers } → pointers ≡ roots_of parts ++ drop (length parts) initial → length parts ≡ 5 → drop 5 initial ≡ null_pointer ∷ []
+pub rooted_is : (seal sealed : Seal) (parts : List ChainPart) (pointers initial : List PagePtr)
+    → sealed ≡ record seal { pointers = pointers } → pointers ≡ roots_of parts ++ drop (length parts) initial → length parts ≡ 5
+    → drop 5 initial ≡ null_pointer ∷ []
     → sealed ≡ with_roots seal parts
 rooted_is seal sealed parts pointers initial is roots five rest =
-    is ∙ ap (λ (ps : List PagePtr). record seal { pointers = ps }) (roots ∙ ap (λ n. roots_of parts ++ drop n initial) five ∙ ap (λ (ps : List PagePtr). roots_of parts ++ ps) rest)
+    is ∙ ap (λ (ps : List PagePtr). record seal { pointers = ps })
+    (roots ∙ ap (λ n. roots_of parts ++ drop n initial) five ∙ ap (λ (ps : List PagePtr). roots_of parts ++ ps) rest)
 
-module _ (sectors : ℕ) (enough : fewest_sectors ≤ sectors) (seal : Seal) (contents : List Stored) (parts : List ChainPart) (behind_ring : AreBehindRing (group_places contents parts)) (on_disk : AllByRecursion (λ stored. stored.place < sectors) contents) where
+module _ (sectors : ℕ) (enough : fewest_sectors ≤ sectors) (seal : Seal) (contents : List Stored) (parts : List ChainPart)
+    (behind_ring : AreBehindRing (group_places contents parts)) (on_disk : AllByRecursion (λ stored. stored.place < sectors) contents) where
   abbrev slot : ℕ
   slot = slot_of seal.group
 
@@ -63,14 +74,17 @@ module _ (sectors : ℕ) (enough : fewest_sectors ≤ sectors) (seal : Seal) (co
   rooted = with_roots seal parts
 
   -- all but the gate was written
-  pub fills_of : (sealed : Seal) (is_sealed : sealed ≡ with_roots seal parts) (fits : FitsSeal sealed) (old mid later filled : Option Image) → TellsImage sectors old → Takes slot old mid → StoresParts contents parts mid later → TellsImage sectors later
+  pub fills_of : (sealed : Seal) (is_sealed : sealed ≡ with_roots seal parts) (fits : FitsSeal sealed) (old mid later filled : Option Image)
+      → TellsImage sectors old → Takes slot old mid → StoresParts contents parts mid later → TellsImage sectors later
       → Holds later filled (body_sector (slot_of sealed.group)) (body_bytes sealed) → Fills contents parts rooted old filled
   fills_of sealed is_sealed fits None mid later filled is takes stores whole fills = tt
   fills_of sealed is_sealed fits (Some image) mid later filled is takes stores whole fills =
       let taken : Image = takes.0 in
-      let stores_here : StoresParts contents parts (Some taken) later = subst (λ (o : Option Image). StoresParts contents parts o later) takes.1 stores in
+      let stores_here : StoresParts contents parts (Some taken) later = subst
+      (λ (o : Option Image). StoresParts contents parts o later) takes.1 stores in
       let stored : Image = stores_here.0 in
-      let fills_here : Holds later filled (body_sector slot) (body_bytes rooted) = subst (λ (s : Seal). Holds later filled (body_sector (slot_of s.group)) (body_bytes s)) is_sealed fills in
+      let fills_here : Holds later filled (body_sector slot) (body_bytes rooted) = subst
+      (λ (s : Seal). Holds later filled (body_sector (slot_of s.group)) (body_bytes s)) is_sealed fills in
       let is_whole : IsImage sectors stored = subst (λ (o : Option Image). TellsImage sectors o) stores_here.1 whole in (
         slice_set stored (body_sector slot) (body_bytes rooted),
         holds_some stored later filled (body_sector slot) (body_bytes rooted) stores_here.1 fills_here,
@@ -86,13 +100,16 @@ module _ (sectors : ℕ) (enough : fewest_sectors ≤ sectors) (seal : Seal) (co
       )
 
   -- and then the gate was opened
-  pub seals_of : (own_version : seal.version ≡ image_version) (old filled new : Option Image) → TellsImage sectors old → FollowsSeal seal.group old → Fills contents parts rooted old filled → Holds filled new (gate_sector slot) open_gate → Seals slot contents parts rooted old new
+  pub seals_of : (own_version : seal.version ≡ image_version) (old filled new : Option Image) → TellsImage sectors old
+      → FollowsSeal seal.group old → Fills contents parts rooted old filled → Holds filled new (gate_sector slot) open_gate
+      → Seals slot contents parts rooted old new
   seals_of own_version None filled new is follows fills opens = tt
   seals_of own_version (Some image) filled new is follows fills opens =
       let f : IsFilled contents parts rooted image fills.0 = fills.2 in (
         slice_set (slice_set f.stored (body_sector slot) (body_bytes rooted)) (gate_sector slot) open_gate,
         holds_some _ filled new _ _ (fills.1 ∙ ap (λ (c : Image). Some c) f.body) opens,
-        sealed_opened seal.group sectors image is enough follows.0 follows.1 follows.2 contents parts behind_ring on_disk f.taken f.is_taken f.stored f.is_stored.only f.is_stored rooted f.fits refl own_version (subst (λ n. IsImage n f.stored) is.count f.whole),
+        sealed_opened seal.group sectors image is enough follows.0 follows.1 follows.2 contents parts behind_ring on_disk f.taken f.is_taken
+            f.stored f.is_stored.only f.is_stored rooted f.fits refl own_version (subst (λ n. IsImage n f.stored) is.count f.whole),
       )
 
   -- or its write failed
@@ -152,7 +169,8 @@ module _ (sectors : ℕ) (enough : fewest_sectors ≤ sectors) (seal : Seal) (co
 
         each : (c : Image) → OpeningLeaves slot filled.may_leave c → Either c
         each c from =
-            sealed_gate seal.group sectors image is enough follows.0 follows.1 follows.2 contents parts behind_ring on_disk f.taken f.is_taken f.stored f.is_stored.only f.is_stored rooted f.fits refl own_version
+            sealed_gate seal.group sectors image is enough follows.0 follows.1 follows.2 contents parts behind_ring on_disk f.taken
+            f.is_taken f.stored f.is_stored.only f.is_stored rooted f.fits refl own_version
             (subst (λ n. IsImage n f.stored) is.count f.whole) c
             (subst (λ (d : Image). GateTorn slot d c)
             (only_told _ filled.seen filled.may_leave (fills_here.1 ∙ ap (λ (d : Image). Some d) f.body) still from.0 from.1) from.2)
@@ -174,7 +192,8 @@ module _ (sectors : ℕ) (enough : fewest_sectors ≤ sectors) (seal : Seal) (co
       group_storing storing =
           and_then (group_taking taking)
           (weakened Before storing
-          (λ c from. (unsealed_stored seal.group sectors image is enough follows.0 follows.1 follows.2 contents parts behind_ring on_disk taken.0 taken.2 c (stored_from c from))))
+          (λ c from. (unsealed_stored seal.group sectors image is enough follows.0 follows.1 follows.2 contents parts behind_ring on_disk
+          taken.0 taken.2 c (stored_from c from))))
         where
           stored_from : (c : Image) → ChainLeaves (group_places contents parts) mid.may_leave c
               → SameBut (group_places contents parts) taken.0 c
@@ -195,7 +214,8 @@ module _ (sectors : ℕ) (enough : fewest_sectors ≤ sectors) (seal : Seal) (co
             each : (c : Image) → WritingLeaves (slot_of sealed.group) later.may_leave c → Before c
             each c from =
                 let earlier = at_end from.0 from.1 in
-                (unsealed_body seal.group sectors image is enough follows.0 follows.1 follows.2 contents parts behind_ring on_disk taken.0 taken.2 from.0
+                (unsealed_body seal.group sectors image is enough follows.0 follows.1 follows.2 contents parts behind_ring on_disk taken.0
+                taken.2 from.0
                 (subst (λ (d : Image). SameBut (group_places contents parts) d from.0)
                 (only_told taken.0 mid.seen mid.may_leave taken.1 still earlier.0 earlier.1) earlier.2)
                 c (subst (λ (s : Seal). BodyTorn (slot_of s.group) from.0 c) is_sealed from.2))

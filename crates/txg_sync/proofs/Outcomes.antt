@@ -17,7 +17,9 @@ use Rattle.txg_sync.specs.Writing.{group_places, IsUnsealed}
 use Rattle.table_state.proofs.NamedStays.{holds_still}
 
 -- what is used isn't one of the places that aren't
-pub apart_from_unused : (used : List Bool) (places : List ℕ) (at : ℕ) → AllByRecursion (λ place. slice_index_or used place true ≡ false) places → slice_index_or used at true ≡ true → list_any (λ place. place == at) places ≡ false
+pub apart_from_unused : (used : List Bool) (places : List ℕ) (at : ℕ)
+    → AllByRecursion (λ place. slice_index_or used place true ≡ false) places → slice_index_or used at true ≡ true
+    → list_any (λ place. place == at) places ≡ false
 apart_from_unused used [] at unused here = refl
 apart_from_unused used (place ∷ places) at unused here =
     ⊎_elim
@@ -28,7 +30,9 @@ apart_from_unused used (place ∷ places) at unused here =
     clash : true ≡ false → ⊥
     clash e = cc e
 
-places_unused : (used : List Bool) (contents : List Stored) → AllByRecursion (λ stored. slice_index_or used stored.place true ≡ false) contents → AllByRecursion (λ place. slice_index_or used place true ≡ false) (block_places contents)
+places_unused : (used : List Bool) (contents : List Stored)
+    → AllByRecursion (λ stored. slice_index_or used stored.place true ≡ false) contents
+    → AllByRecursion (λ place. slice_index_or used place true ≡ false) (block_places contents)
 places_unused used [] all = tt
 places_unused used (stored ∷ contents) all = (all.0, places_unused used contents all.1)
 

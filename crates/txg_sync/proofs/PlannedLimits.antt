@@ -18,23 +18,29 @@ use Rattle.pool_model.proofs.TablePuts.{entries_put}
 
 module _ (sectors group : ℕ) where
   -- a change in range leaves homes in range
-  set_found_within : (entries : List Entry) (change : Change) → AllByRecursion (IsWithin sectors group) entries → IsChangeWithin sectors group change → AllByRecursion (IsWithin sectors group) (set_found entries change)
+  set_found_within : (entries : List Entry) (change : Change) → AllByRecursion (IsWithin sectors group) entries
+      → IsChangeWithin sectors group change → AllByRecursion (IsWithin sectors group) (set_found entries change)
   set_found_within entries (changes.Entry entry) within here = all_put entries_put (IsWithin sectors group) entry entries here within
   set_found_within entries (changes.Gone key) within here = all_filter (IsWithin sectors group) (λ e. not (key_eq e.key key)) entries within
 
   -- the homes that a table in range finds are in range
-  pub found_within : (table : TableState) → IsTableWithin sectors group table → AllByRecursion (IsWithin sectors group) (entries_found table)
+  pub found_within : (table : TableState) → IsTableWithin sectors group table
+      → AllByRecursion (IsWithin sectors group) (entries_found table)
   found_within table within =
       let flushing : AllByRecursion (IsWithin sectors group) (fold set_found table.zap table.flush) =
-      fold_keeps (AllByRecursion (IsWithin sectors group)) (IsChangeWithin sectors group) set_found set_found_within table.flush table.zap within.zap within.flush
+      fold_keeps (AllByRecursion (IsWithin sectors group))
+      (IsChangeWithin sectors group) set_found set_found_within table.flush table.zap within.zap within.flush
       in
-      fold_keeps (AllByRecursion (IsWithin sectors group)) (IsChangeWithin sectors group) set_found set_found_within table.active (fold set_found table.zap table.flush) flushing within.active
+      fold_keeps (AllByRecursion (IsWithin sectors group)) (IsChangeWithin sectors group) set_found set_found_within table.active
+      (fold set_found table.zap table.flush) flushing within.active
 
   -- so each count is small
-  pub found_small : (table : TableState) → IsTableWithin sectors group table → All (λ entry. entry.home.count ≤ 1048576) (entries_found table)
+  pub found_small : (table : TableState) → IsTableWithin sectors group table
+      → All (λ entry. entry.home.count ≤ 1048576) (entries_found table)
   found_small table within =
       All-from_recursion (λ entry. entry.home.count ≤ 1048576) (entries_found table)
-      (all_from (IsWithin sectors group) (λ entry. entry.home.count ≤ 1048576) (λ entry is. is.count) (entries_found table) (found_within table within))
+      (all_from (IsWithin sectors group) (λ entry. entry.home.count ≤ 1048576) (λ entry is. is.count) (entries_found table)
+      (found_within table within))
 
 -- ---- How many homes are found
 
@@ -48,21 +54,25 @@ length-all_found (change ∷ log) entries = omega (arith, length-all_found log (
 
 -- at most one for each stored home and each change in a log
 pub length-found : (table : TableState) → length (entries_found table) ≤ length table.zap + length table.flush + length table.active
-length-found table = omega (arith, length-all_found table.active (fold set_found table.zap table.flush), length-all_found table.flush table.zap)
+length-found table = omega
+    (arith, length-all_found table.active (fold set_found table.zap table.flush), length-all_found table.flush table.zap)
 
 -- a stored home that is counted is in one of the two classes
-length-classes : (zap : List Entry) → AllByRecursion (λ entry. nat_lt 0 entry.home.count ≡ true) zap → length zap ≤ length (unique_in zap) + length (duplicate_in zap)
+length-classes : (zap : List Entry) → AllByRecursion (λ entry. nat_lt 0 entry.home.count ≡ true) zap
+    → length zap ≤ length (unique_in zap) + length (duplicate_in zap)
 length-classes [] counted = omega arith
 length-classes (entry ∷ zap) counted = by_count (length-classes zap counted.1) entry.home.count counted.0
   where
     by_count : length zap ≤ length (unique_in zap) + length (duplicate_in zap) → (count : ℕ) → nat_lt 0 count ≡ true
-        → length (entry ∷ zap) ≤ length (cond (count == 1) (entry ∷ unique_in zap) (unique_in zap)) + length (cond (nat_lt 1 count) (entry ∷ duplicate_in zap) (duplicate_in zap))
+        → length (entry ∷ zap) ≤ length (cond (count == 1) (entry ∷ unique_in zap) (unique_in zap)) + length
+        (cond (nat_lt 1 count) (entry ∷ duplicate_in zap) (duplicate_in zap))
     by_count rest count some = grind (arith, nat_tests)
 
 -- the four lists of a table whose pages a disk holds are short
 pub few_found : (table : TableState) → IsTable table → table_pages table ≤ 1_000_000 → length (entries_found table) ≤ 2 ^ 40
 few_found table is fit =
-    in_all (length (entries_found table)) (length table.zap) (length table.flush) (length table.active) (length (unique_in table.zap)) (length (duplicate_in table.zap))
+    in_all (length (entries_found table)) (length table.zap) (length table.flush) (length table.active) (length (unique_in table.zap))
+    (length (duplicate_in table.zap))
     (length-found table) (length-classes table.zap is.zap_counted) fit
   where
     in_all : (found zap flush active unique duplicate : ℕ) → found ≤ zap + flush + active → zap ≤ unique + duplicate

@@ -5,6 +5,8 @@ use Rattle.ddt_entry.specs.Spelling.{IsKeyLength}
 use Rattle.ddt_entry.specs.declared.entry.Entry.{Entry}
 
 -- the entries at hand are those of a copy that pass a test
-pub class_lengths : (test : Entry → Bool) (zap copy class listed : List Entry) → copy ≡ zap → class ≡ filter test copy → listed ≡ class → All (λ entry. IsKeyLength entry.key.len) zap → All (λ entry. IsKeyLength entry.key.len) listed
+pub class_lengths : (test : Entry → Bool) (zap copy class listed : List Entry) → copy ≡ zap → class ≡ filter test copy → listed ≡ class
+    → All (λ entry. IsKeyLength entry.key.len) zap → All (λ entry. IsKeyLength entry.key.len) listed
 class_lengths test zap copy class listed copied tested at_hand lengths =
-    subst (λ (l : List Entry). All (λ entry. IsKeyLength entry.key.len) l) (sym (at_hand ∙ tested ∙ ap (filter test) copied)) (All-filter test (λ entry. IsKeyLength entry.key.len) zap lengths)
+    subst (λ (l : List Entry). All (λ entry. IsKeyLength entry.key.len) l) (sym (at_hand ∙ tested ∙ ap (filter test) copied))
+    (All-filter test (λ entry. IsKeyLength entry.key.len) zap lengths)

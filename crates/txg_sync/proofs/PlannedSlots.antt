@@ -9,8 +9,11 @@ use Rattle.table_state.specs.Pools.{insert_slot}
 use Rattle.table_state.specs.declared.slot_record.SlotRecord.{SlotRecord}
 
 -- a slot goes to the first place whose slot it stands before
-pub insert_slot-insert : (new : SlotRecord) (slots : List SlotRecord) → insert_slot new slots ≡ insert slots (position_or_len (stands_before new) slots) new
+pub insert_slot-insert : (new : SlotRecord) (slots : List SlotRecord)
+    → insert_slot new slots ≡ insert slots (position_or_len (stands_before new) slots) new
 insert_slot-insert new [] = refl
 insert_slot-insert new (held ∷ slots) =
-    elim (stands_before new held) as (λ b. (if b then new ∷ held ∷ slots else held ∷ insert_slot new slots) ≡ insert (held ∷ slots) (cond (not b) (1 + position_or_len (stands_before new) slots) 0) new)
+    elim (stands_before new held) as
+    (λ b. (if b then new ∷ held ∷ slots else held ∷ insert_slot new slots) ≡ insert (held ∷ slots)
+    (cond (not b) (1 + position_or_len (stands_before new) slots) 0) new)
     [ true ↦ refl | false ↦ rw one-add (ap (λ l. held ∷ l) (insert_slot-insert new slots)) ]

@@ -36,20 +36,25 @@ written_touches (Err failed) at bytes (Some image) mid new long held stays =
     (slice_set image at bytes, subst (λ (o : Option Image). Stays o new) held stays, Torn-set image at bytes long)
 
 -- told contents after a write
-pub holds_some : (image : Image) (old new : Option Image) (at : ℕ) (bytes : List ℕ) → old ≡ Some image → Holds old new at bytes → new ≡ Some (slice_set image at bytes)
+pub holds_some : (image : Image) (old new : Option Image) (at : ℕ) (bytes : List ℕ) → old ≡ Some image → Holds old new at bytes
+    → new ≡ Some (slice_set image at bytes)
 holds_some image old new at bytes told held = subst (λ (o : Option Image). Holds o new at bytes) told held
 
 -- the only outcome where nothing is pending
-pub only_told : (image : Image) (told : Option Image) (may_leave : Image → Type 0) → told ≡ Some image → NothingPending told may_leave → (c : Image) → may_leave c → c ≡ image
+pub only_told : (image : Image) (told : Option Image) (may_leave : Image → Type 0) → told ≡ Some image → NothingPending told may_leave
+    → (c : Image) → may_leave c → c ≡ image
 only_told image told may_leave same still = (subst (λ (o : Option Image). NothingPending o may_leave) same still).1
 
 -- a new seal's body, told of the seal's fields
-as_new : (tag sectors : ℕ) (seal : Seal) (old new : Option Image) → seal ≡ new_seal tag sectors → Holds old new (body_sector (slot_of seal.group)) (body_bytes seal) → Holds old new (body_sector 1) (body_bytes (new_seal tag sectors))
+as_new : (tag sectors : ℕ) (seal : Seal) (old new : Option Image) → seal ≡ new_seal tag sectors
+    → Holds old new (body_sector (slot_of seal.group)) (body_bytes seal) → Holds old new (body_sector 1) (body_bytes (new_seal tag sectors))
 as_new tag sectors seal old new same held = subst (λ (s : Seal). Holds old new (body_sector (slot_of s.group)) (body_bytes s)) same held
 
 -- all stages succeeded
-pub begins_of : (tag sectors : ℕ) (seal : Seal) (old mid later new : Option Image) → fewest_sectors ≤ sectors → sectors ≤ most_sectors → TellsImage sectors old → HasNoSeal old → FitsSeal seal → seal ≡ new_seal tag sectors
-    → Takes 1 old mid → Holds mid later (body_sector (slot_of seal.group)) (body_bytes seal) → Holds later new (gate_sector 1) open_gate → Begins tag old new
+pub begins_of : (tag sectors : ℕ) (seal : Seal) (old mid later new : Option Image) → fewest_sectors ≤ sectors → sectors ≤ most_sectors
+    → TellsImage sectors old → HasNoSeal old → FitsSeal seal → seal ≡ new_seal tag sectors
+    → Takes 1 old mid → Holds mid later (body_sector (slot_of seal.group)) (body_bytes seal) → Holds later new (gate_sector 1) open_gate
+    → Begins tag old new
 begins_of tag sectors seal None mid later new enough few is none fits same takes filled opened = tt
 begins_of tag sectors seal (Some image) mid later new enough few is none fits same takes filled opened =
     let taken : Image = takes.0 in

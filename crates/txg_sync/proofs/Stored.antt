@@ -27,7 +27,8 @@ module _ (contents : List Stored) (parts : List ChainPart) where
   abbrev pages : List ℕ
   pages = places_in parts
 
-  none_of_both : (at : ℕ) → list_any (λ place. place == at) (group_places contents parts) ≡ false → (list_any (λ place. place == at) blocks ≡ false) × (list_any (λ place. place == at) pages ≡ false)
+  none_of_both : (at : ℕ) → list_any (λ place. place == at) (group_places contents parts) ≡ false
+      → (list_any (λ place. place == at) blocks ≡ false) × (list_any (λ place. place == at) pages ≡ false)
   none_of_both at none = or_parts _ _ (sym (list_any-append (λ place. place == at) blocks pages) ∙ none)
 
   -- sectors of blocks and then of pages
@@ -47,14 +48,16 @@ module _ (contents : List Stored) (parts : List ChainPart) where
   blocks_touched None new touch = tt
   blocks_touched (Some image) new touch = (touch.0, touch.1, same_blocks image touch.0 touch.2)
 
-  pub all_touched : (old mid new : Option Image) → MayTouchAll old mid blocks → MayTouchAll mid new pages → MayTouchAll old new (group_places contents parts)
+  pub all_touched : (old mid new : Option Image) → MayTouchAll old mid blocks → MayTouchAll mid new pages
+      → MayTouchAll old new (group_places contents parts)
   all_touched None mid new first second = tt
   all_touched (Some image) mid new first second =
       let now : MayTouchAll (Some first.0) new pages = subst (λ (m : Option Image). MayTouchAll m new pages) first.1 second in
       (now.0, now.1, same_both image first.0 now.0 first.2 now.2)
 
   -- blocks and chains stand at their places
-  pub all_stored : (old mid new : Option Image) → Stores old mid contents → MayTouchAll old mid blocks → HoldsSince mid new parts → MayTouchAll mid new pages → StoresParts contents parts old new
+  pub all_stored : (old mid new : Option Image) → Stores old mid contents → MayTouchAll old mid blocks → HoldsSince mid new parts
+      → MayTouchAll mid new pages → StoresParts contents parts old new
   all_stored None mid new stores first held second = tt
   all_stored (Some image) mid new stores first held second =
       let d : Image = with_blocks contents image in
@@ -62,7 +65,8 @@ module _ (contents : List Stored) (parts : List ChainPart) where
       let touched : MayTouchAll (Some d) new pages = subst (λ (m : Option Image). MayTouchAll m new pages) stores second in
       let same_c : touched.0 ≡ holds.0 = same_some touched.0 holds.0 (sym touched.1 ∙ holds.1) in
       let beside : SameBut pages d holds.0 = subst (λ (x : Image). SameBut pages d x) same_c touched.2 in
-      let front : SameBut blocks image d = subst (λ (x : Image). SameBut blocks image x) (same_some first.0 d (sym first.1 ∙ stores)) first.2 in
+      let front : SameBut blocks image d = subst (λ (x : Image). SameBut blocks image x)
+      (same_some first.0 d (sym first.1 ∙ stores)) first.2 in
       (holds.0, holds.1, record { only = same_both image d holds.0 front beside; held = holds.2; beside = beside.others })
 
   -- at each moment

@@ -45,7 +45,8 @@ module _ (held : Held) (closed : PlainClosed) (sound : IsSound held) (next : Hel
 
   -- on a disk that has the pool's sectors
   pub open_on_disk : (sectors : ℕ) → held.sectors ≤ sectors → AreOpen sectors [] (places_in parts)
-  open_on_disk sectors there = open_wider (length held.used) sectors (omega (arith, there, sound.used_len)) [] (places_in parts) plan.placed.places_open
+  open_on_disk sectors there = open_wider (length held.used) sectors (omega (arith, there, sound.used_len)) []
+      (places_in parts) plan.placed.places_open
 
   -- the seal is the next one
   pub follows_newest : (told : Option Image) → CanSyncOver told held closed → FollowsSeal seal.group told
@@ -201,7 +202,8 @@ nothing_begun image held closed s here still over = (
         (record { stands = inl (holds_over image held s over); only = λ at gate body used. refl })
 
 -- what holds of each stored block holds at each index of the blocks
-pub stored_at : (Q : Stored → Type 0) (contents : List StoredBlock) → AllByRecursion Q (map stored_of contents) → (k : ℕ) (d : StoredBlock) → k < length contents → Q (stored_of (get_or contents k d))
+pub stored_at : (Q : Stored → Type 0) (contents : List StoredBlock) → AllByRecursion Q (map stored_of contents) → (k : ℕ) (d : StoredBlock)
+    → k < length contents → Q (stored_of (get_or contents k d))
 stored_at Q [] all k d within = absurd (omega (arith, within))
 stored_at Q (s ∷ contents) all zero d within = all.0
 stored_at Q (s ∷ contents) all (suc k) d within = stored_at Q contents all.1 k d (omega (arith, within))

@@ -15,7 +15,8 @@ use Rattle.table_state.specs.Closing.{block_places, pages_of}
 -- these are the sectors that a pool with these pages, slots and table uses, whatever its settings
 abbrev pub AreUsed : (sectors : ℕ) → (pages : List ℕ) → List SlotRecord → TableState → List Bool → Type 0
 AreUsed sectors pages slots table used =
-    (modes : List Mode) → (quota : Option ℕ) → (group : ℕ) → used ≡ used_sectors sectors pages (pool_after [] [] slots table modes quota group) table
+    (modes : List Mode) → (quota : Option ℕ) → (group : ℕ)
+    → used ≡ used_sectors sectors pages (pool_after [] [] slots table modes quota group) table
 
 -- chains of these records, each page at a place of its own that isn't used, not even by one of these blocks
 pub record ArePlaced (used : List Bool) (contents : List Stored) (lists : List (List (List ℕ))) (parts : List ChainPart) : Type 0 where
@@ -33,4 +34,5 @@ LacksRoom used contents lists = count_by not (marked used (block_places contents
 abbrev pub parts_of : (lists : List (List (List ℕ))) → (places : List ℕ) → List ChainPart
 parts_of [] places = []
 parts_of (records ∷ lists) places =
-    record { places = take (pages_for (length records)) places; records = records } ∷ parts_of lists (drop (pages_for (length records)) places)
+    record { places = take (pages_for (length records)) places; records = records } ∷ parts_of lists
+    (drop (pages_for (length records)) places)

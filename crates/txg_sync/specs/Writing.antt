@@ -43,7 +43,8 @@ StoresParts contents parts (Some image) new = (stored : Image) × (new ≡ Some 
 -- nothing but the two sectors of a slot and these places differs
 pub record TouchesOnly (slot : ℕ) (places : List ℕ) (image c : Image) : Type 0 where
   pub count : length c ≡ length image
-  pub others : (at : ℕ) → at ≢ gate_sector slot → at ≢ body_sector slot → list_any (λ place. place == at) places ≡ false → sector_at c at ≡ sector_at image at
+  pub others : (at : ℕ) → at ≢ gate_sector slot → at ≢ body_sector slot → list_any (λ place. place == at) places ≡ false
+      → sector_at c at ≡ sector_at image at
 
 -- the gate isn't open yet: the seal that counted still counts
 pub record IsUnsealed (slot : ℕ) (places : List ℕ) (image c : Image) : Type 0 where
@@ -55,11 +56,13 @@ pub record IsSealed (slot : ℕ) (contents : List Stored) (parts : List ChainPar
   pub only : TouchesOnly slot (group_places contents parts) image c
   pub counts : newest image_version c ≡ Some seal
   pub held : HoldsParts c parts
-  pub blocks : (at : ℕ) → 32 ≤ at → list_any (λ place. place == at) (places_in parts) ≡ false → sector_at c at ≡ sector_at (with_blocks contents image) at
+  pub blocks : (at : ℕ) → 32 ≤ at → list_any (λ place. place == at) (places_in parts) ≡ false
+      → sector_at c at ≡ sector_at (with_blocks contents image) at
 
 -- at each moment the one or the other
 abbrev pub MayBeSealed : (slot : ℕ) → (contents : List Stored) → (parts : List ChainPart) → Seal → (image c : Image) → Type 0
-MayBeSealed slot contents parts seal image c = IsUnsealed slot (group_places contents parts) image c ⊎ IsSealed slot contents parts seal image c
+MayBeSealed slot contents parts seal image c = IsUnsealed slot (group_places contents parts) image c
+    ⊎ IsSealed slot contents parts seal image c
 
 abbrev pub Seals : (slot : ℕ) → (contents : List Stored) → (parts : List ChainPart) → Seal → (old new : Option Image) → Type 0
 Seals slot contents parts seal None new = ⊤

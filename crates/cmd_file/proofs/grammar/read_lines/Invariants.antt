@@ -6,7 +6,8 @@ use Rattle.cmd_file.specs.Progress.{progress_of}
 use Rattle.cmd_file.proofs.grammar.read_lines.Given as goal
 
 abbrev pub invariant-lines : goal.invariant-lines
-invariant-lines l = parts_in (Some (progress_of l.progress)) (slice_split is_line_feed l.rest) ≡ parts_in (Some first_progress) (slice_split is_line_feed l.text)
+invariant-lines l = parts_in (Some (progress_of l.progress)) (slice_split is_line_feed l.rest) ≡ parts_in (Some first_progress)
+    (slice_split is_line_feed l.text)
 
 abbrev pub decreases-lines : goal.decreases-lines
 decreases-lines l = length l.rest

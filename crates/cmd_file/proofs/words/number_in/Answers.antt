@@ -29,7 +29,8 @@ is_text : (word : List ℕ) → is_number word ≡ true → IsUtf8 word
 is_text word h = IsUtf8-from_ascii word (IsAscii-from_digits word (digits.to word (has_digits word h).0))
 
 -- what `parse` refuses of a number is past 64 bits
-too_large : {E : Type 0} (word : List ℕ) (error : E) → is_number word ≡ true → ParsesUnsigned {E = E} 64 10 word (Err error) → 2 ^ 64 ≤ digits_value 10 word
+too_large : {E : Type 0} (word : List ℕ) (error : E) → is_number word ≡ true → ParsesUnsigned {E = E} 64 10 word (Err error)
+    → 2 ^ 64 ≤ digits_value 10 word
 too_large {E} word error h refused =
     let parsed = parse_digits digits {E = E} 64 word (Err error) refused (has_digits word h).0 in
     ⊎_elim (λ small. absurd (parsed ((has_digits word h).1, small))) (λ large. large) (cases_lt (digits_value 10 word) (2 ^ 64))

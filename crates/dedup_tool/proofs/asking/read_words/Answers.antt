@@ -7,17 +7,24 @@ use Rattle.dedup_tool.proofs.asking.read_words.Goals as goal
 pub returns-in-Ok-clause-usage : goal.returns-in-Ok-clause-usage
 returns-in-Ok-clause-usage c usage =
     let words : List (List ℕ) = map string_bytes c.args.words.now in
-    neither words (unasked_so words c.in-Ok.matches (option_map (λ s. s.now) c.get_str.result) c.in-Ok.ensures.matches c.get_str.ensures (c.session_of.ensures.usage usage))
+    neither words (unasked_so words c.in-Ok.matches (option_map (λ s. s.now) c.get_str.result) c.in-Ok.ensures.matches c.get_str.ensures
+    (c.session_of.ensures.usage usage))
 
 pub returns-in-Ok-clause-runs : goal.returns-in-Ok-clause-runs
 returns-in-Ok-clause-runs c =
     let words : List (List ℕ) = map string_bytes c.args.words.now in
-    IfOk-weaker c.session_of.result _ _ (λ told some is. no_look words (λ asked asks. asked_so words c.in-Ok.matches (option_map (λ s. s.now) c.get_str.result) told c.in-Ok.ensures.matches c.get_str.ensures some asked asks ∙ is)) c.session_of.ensures.ok
+    IfOk-weaker c.session_of.result _ _
+    (λ told some is. no_look words
+    (λ asked asks. asked_so words c.in-Ok.matches
+    (option_map (λ s. s.now) c.get_str.result) told c.in-Ok.ensures.matches c.get_str.ensures some asked asks ∙ is)) c.session_of.ensures.ok
 
 pub returns-in-Ok-clause-looks : goal.returns-in-Ok-clause-looks
 returns-in-Ok-clause-looks c =
     let words : List (List ℕ) = map string_bytes c.args.words.now in
-    IfOk-weaker c.session_of.result _ _ (λ told some is. no_run words (λ asked asks. asked_so words c.in-Ok.matches (option_map (λ s. s.now) c.get_str.result) told c.in-Ok.ensures.matches c.get_str.ensures some asked asks ∙ is)) c.session_of.ensures.ok
+    IfOk-weaker c.session_of.result _ _
+    (λ told some is. no_run words
+    (λ asked asks. asked_so words c.in-Ok.matches
+    (option_map (λ s. s.now) c.get_str.result) told c.in-Ok.ensures.matches c.get_str.ensures some asked asks ∙ is)) c.session_of.ensures.ok
 
 pub returns-in-Err-clause-usage : goal.returns-in-Err-clause-usage
 returns-in-Err-clause-usage c usage =

@@ -7,7 +7,8 @@ use Rattle.dedup_tool.proofs.image.sized_path.Goals as goal
 
 pub returns-in_default : goal.returns-in_default
 returns-in_default c n path sized =
-    let none : position_or_len (λ b. b == 58) c.args.rest.now ≡ length c.args.rest.now = c.in_default.ensures.byte (omega arith) (λ w o found. found) in
+    let none : position_or_len (λ b. b == 58) c.args.rest.now ≡ length c.args.rest.now = c.in_default.ensures.byte (omega arith)
+    (λ w o found. found) in
     has_colon c.args.rest.now path n sized none
 
 pub returns-in_default-number_of : goal.returns-in_default-number_of

@@ -9,7 +9,8 @@ use Rattle.held_stats.proofs.pool.stats_of_pool.Goals as goal
 
 pub stats-requires : goal.stats-requires
 stats-requires c =
-    let keys : map (λ (reference : Reference). reference.key) c.as_slice-2.result.now ≡ map (λ (slot : SlotRecord). slot.pointer.key) c.args.pool.now.slots =
+    let keys : map (λ (reference : Reference). reference.key) c.as_slice-2.result.now ≡ map
+    (λ (slot : SlotRecord). slot.pointer.key) c.args.pool.now.slots =
     ap (map (λ (reference : Reference). reference.key)) c.as_slice-2.ensures.value ∙ c.in_ok-references.ensures.keys
     ∙ ap (map (λ (slot : SlotRecord). slot.pointer.key)) c.as_slice.ensures
     ∙ ap (λ (h : Held). map (λ (slot : SlotRecord). slot.pointer.key) h.slots) c.pool.view_is
@@ -18,7 +19,8 @@ stats-requires c =
 
 pub returns : goal.returns
 returns c image p table is =
-    let sorted : IsTable c.pool.inside.table = subst (λ (h : Held). IsTable h.table) (sym c.pool.view_is) (sorted-held image c.args.pool.now p table is) in
+    let sorted : IsTable c.pool.inside.table = subst (λ (h : Held). IsTable h.table) (sym c.pool.view_is)
+    (sorted-held image c.args.pool.now p table is) in
     let seen : c.as_slice-2.result.now ≡ map (reference_in c.args.pool.now.table) c.args.pool.now.slots =
     c.as_slice-2.ensures.value ∙ c.in_ok-references.ensures.seen sorted
     ∙ ap (map (reference_in c.pool.inside.table)) c.as_slice.ensures

@@ -6,5 +6,6 @@ use Rattle.image_tests.proofs.places.placed.Goals as goal
 
 pub place_chains-requires : goal.place_chains-requires
 place_chains-requires c = record {
-  ring = λ sector first. subst (λ (used : List Bool). slice_index_or used sector true ≡ true) (sym c.in_ok-used.ensures) (ring_is_used c.args.sectors sector first);
+  ring = λ sector first. subst (λ (used : List Bool). slice_index_or used sector true ≡ true) (sym c.in_ok-used.ensures)
+      (ring_is_used c.args.sectors sector first);
 }

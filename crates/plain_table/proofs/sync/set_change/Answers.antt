@@ -11,7 +11,8 @@ sets : (change : Change) → SetsAt key_in (key_in change) change (set_change ch
 sets change = record { at_end = refl; step = λ y ys. refl }
 
 -- where the first change from a key on stands, by what the calls returned
-place_of : (key k : Key) (log items : List Change) (place : Option ℕ) → key ≡ k → log ≡ items → place ≡ position (from_by key_in key) log → position (from_by key_in k) items ≡ place
+place_of : (key k : Key) (log items : List Change) (place : Option ℕ) → key ≡ k → log ≡ items → place ≡ position (from_by key_in key) log
+    → position (from_by key_in k) items ≡ place
 place_of key k log items place same list found =
     sym (found ∙ ap (λ j. position (from_by key_in j) log) same ∙ ap (λ l. position (from_by key_in k) l) list)
 
@@ -27,9 +28,12 @@ returns-in_default c =
 pub returns-then-is_of : goal.returns-then-is_of
 returns-then-is_of c =
     let place = place_of _ _ _ _ _ c.key_of-key.ensures c.as_slice.ensures.value c.first_change_from.ensures in
-    sym (set_there _ _ _ _ (sets c.args.change) _ _ _ (place ∙ c.in-Some.is) c.index.ensures (is_there _ _ c.index.result.now _ c.key_of-key.ensures c.if-is_of.ensures))
+    sym (set_there _ _ _ _ (sets c.args.change) _ _ _ (place ∙ c.in-Some.is) c.index.ensures
+    (is_there _ _ c.index.result.now _ c.key_of-key.ensures c.if-is_of.ensures))
 
 pub returns : goal.returns
 returns c =
     let place = place_of _ _ _ _ _ c.key_of-key.ensures c.as_slice.ensures.value c.first_change_from.ensures in
-    c.in_ok-insert.ensures.items ∙ sym (set_before _ _ _ _ (sets c.args.change) _ _ _ (place ∙ c.in-Some.is) c.index.ensures (is_there _ _ c.index.result.now _ c.key_of-key.ensures c.if-is_of.ensures))
+    c.in_ok-insert.ensures.items
+    ∙ sym (set_before _ _ _ _ (sets c.args.change) _ _ _ (place ∙ c.in-Some.is) c.index.ensures
+    (is_there _ _ c.index.result.now _ c.key_of-key.ensures c.if-is_of.ensures))

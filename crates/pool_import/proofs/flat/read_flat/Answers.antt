@@ -28,7 +28,8 @@ returns-in_err-active-clause-damaged g c sector fault =
     c.root-first.ensures c.read_slots.new.named.items c.in_ok-slots.slots.items c.root-second.result c.root-second.ensures
     c.read_entries.new.named.items c.in_ok-unique.unique.items c.root-third.result c.root-third.ensures c.read_entries-2.new.named.items
     c.in_ok-duplicate.duplicate.items c.root-fourth.result c.root-fourth.ensures
-    c.in_ok-slots.ensures.read c.in_ok-unique.ensures.read c.in_ok-duplicate.ensures.read (c.read_changes.ensures.damaged sector (search rules))
+    c.in_ok-slots.ensures.read c.in_ok-unique.ensures.read c.in_ok-duplicate.ensures.read
+    (c.read_changes.ensures.damaged sector (search rules))
 
 pub returns-in_err-flushing-clause-damaged : goal.returns-in_err-flushing-clause-damaged
 returns-in_err-flushing-clause-damaged g c sector fault =
@@ -37,7 +38,8 @@ returns-in_err-flushing-clause-damaged g c sector fault =
     c.read_entries.new.named.items c.in_ok-unique.unique.items c.root-third.result c.root-third.ensures c.read_entries-2.new.named.items
     c.in_ok-duplicate.duplicate.items c.root-fourth.result c.root-fourth.ensures c.read_changes.new.named.items c.in_ok-active.active.items
     c.root-fifth.result c.root-fifth.ensures
-    c.in_ok-slots.ensures.read c.in_ok-unique.ensures.read c.in_ok-duplicate.ensures.read c.in_ok-active.ensures.read (c.read_changes-2.ensures.damaged sector (search rules))
+    c.in_ok-slots.ensures.read c.in_ok-unique.ensures.read c.in_ok-duplicate.ensures.read c.in_ok-active.ensures.read
+    (c.read_changes-2.ensures.damaged sector (search rules))
 
 pub returns-clause-read : goal.returns-clause-read
 returns-clause-read g c =
@@ -46,4 +48,5 @@ returns-clause-read g c =
     c.read_entries.new.named.items c.in_ok-unique.unique.items c.root-third.result c.root-third.ensures c.read_entries-2.new.named.items
     c.in_ok-duplicate.duplicate.items c.root-fourth.result c.root-fourth.ensures c.read_changes.new.named.items c.in_ok-active.active.items
     c.root-fifth.result c.root-fifth.ensures c.read_changes-2.new.named.items c.in_ok-flushing.flushing.items
-    c.in_ok-slots.ensures.read c.in_ok-unique.ensures.read c.in_ok-duplicate.ensures.read c.in_ok-active.ensures.read c.in_ok-flushing.ensures.read
+    c.in_ok-slots.ensures.read c.in_ok-unique.ensures.read c.in_ok-duplicate.ensures.read c.in_ok-active.ensures.read
+    c.in_ok-flushing.ensures.read

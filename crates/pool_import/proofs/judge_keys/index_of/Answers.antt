@@ -22,4 +22,5 @@ halves-preserved c = record {
 }
 
 pub returns-clause-none : goal.returns-clause-none
-returns-clause-none c = none_of_key c.args.entries.now c.halves.low c.halves.high c.args.key.now (omega arith) c.halves.invariant.below c.halves.invariant.above
+returns-clause-none c = none_of_key c.args.entries.now c.halves.low c.halves.high c.args.key.now
+    (omega arith) c.halves.invariant.below c.halves.invariant.above

@@ -11,4 +11,5 @@ judge-requires-clause-within c = table_in_within c.args.seal.now c.args.flat (c.
 
 pub returns-clause-made : goal.returns-clause-made
 returns-clause-made c =
-    made_of c.args.tag c.args.seal.now c.args.flat c.assembled.result c.in-Some.used _ c.in-Some.is (c.hold_together.ensures.0 c.if-not-hold_together.false) c.in_ok-used.ensures.whole c.assembled.ensures
+    made_of c.args.tag c.args.seal.now c.args.flat c.assembled.result c.in-Some.used _ c.in-Some.is
+    (c.hold_together.ensures.0 c.if-not-hold_together.false) c.in_ok-used.ensures.whole c.assembled.ensures

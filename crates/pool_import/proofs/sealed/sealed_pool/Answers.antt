@@ -15,7 +15,8 @@ returns-in_default-clause-damaged g c sector fault =
 
 pub returns-clause-sound : goal.returns-clause-sound
 returns-clause-sound g c =
-    sound_of c.args.tag c.sectors.result c.args.seal.now c.in_ok-flat.flat c.in-Some.pool (sym c.is_formed.ensures ∙ c.if-not-is_formed.false) c.in_ok-flat.ensures.slots c.in_ok-flat.ensures.lengths (search rules)
+    sound_of c.args.tag c.sectors.result c.args.seal.now c.in_ok-flat.flat c.in-Some.pool
+    (sym c.is_formed.ensures ∙ c.if-not-is_formed.false) c.in_ok-flat.ensures.slots c.in_ok-flat.ensures.lengths (search rules)
 
 pub returns-clause-on_disk : goal.returns-clause-on_disk
 returns-clause-on_disk g c =

@@ -8,7 +8,8 @@ pub returns : goal.returns
 returns c =
     let alike : runs_of c.as_slice.result.now ≡ key_counts (tracked_keys c.args.references.now) =
     ap runs_of c.as_slice.ensures.value
-    ∙ runs_of-sorted c.in_ok-keys.keys.items c.sort_unstable.new.self.items c.sort_unstable.ensures.permutation c.sort_unstable.ensures.sorted
+    ∙ runs_of-sorted c.in_ok-keys.keys.items c.sort_unstable.new.self.items c.sort_unstable.ensures.permutation
+    c.sort_unstable.ensures.sorted
     ∙ ap key_counts c.in_ok-keys.ensures
     in
     subst (λ (what : List KeyCount). IfOk c.runs_of.result (λ counts. counts.items ≡ what)) alike c.runs_of.ensures

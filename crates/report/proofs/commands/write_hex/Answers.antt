@@ -6,7 +6,8 @@ use Rattle.report.proofs.commands.write_hex.Goals as goal
 
 pub returns-in_err-write_piece : goal.returns-in_err-write_piece
 returns-in_err-write_piece g c =
-    Remains-cut c.from_residual.ensures.0 (encode_lower-splits _ _) c.pieces.invariant (rw c.split_at.ensures.front at c.in_err-write_piece.ensures)
+    Remains-cut c.from_residual.ensures.0 (encode_lower-splits _ _) c.pieces.invariant
+    (rw c.split_at.ensures.front at c.in_err-write_piece.ensures)
 
 pub pieces-preserved : goal.pieces-preserved
 pieces-preserved g c =

@@ -6,7 +6,8 @@ use Rattle.report.proofs.commands.write_hex.Given as goal
 
 abbrev pub invariant-pieces : goal.invariant-pieces
 invariant-pieces g l =
-    Remains (g.W.Sink.written l.initial.out) (g.W.Sink.written l.out) (g.W.Sink.faults l.initial.out) (g.W.Sink.faults l.out) (encode_lower l.rest)
+    Remains (g.W.Sink.written l.initial.out) (g.W.Sink.written l.out) (g.W.Sink.faults l.initial.out) (g.W.Sink.faults l.out)
+    (encode_lower l.rest)
     (encode_lower l.initial.rest)
 
 abbrev pub decreases-pieces : goal.decreases-pieces

@@ -8,7 +8,8 @@ pub returns-in_err-write_command : goal.returns-in_err-write_command
 returns-in_err-write_command g c =
     Wrote-same (ap (answered_text c.args.note.now.lane c.args.commands.now) c.as_slice-answers.ensures)
     (Remains-cut c.from_residual.ensures.0
-    (answered_text-own _ _ _ _ _ _ _ c.commands-test.true c.command-item.is c.if-command-note.true c.in-Some.ensures.cases.0) c.commands.invariant
+    (answered_text-own _ _ _ _ _ _ _ c.commands-test.true c.command-item.is c.if-command-note.true c.in-Some.ensures.cases.0)
+    c.commands.invariant
     c.in_err-write_command.ensures)
 
 pub commands-preserved : goal.commands-preserved
@@ -16,7 +17,8 @@ commands-preserved g c =
     elim c.if-command-note.branch [
       | then-command-note+in-Some+in_ok-write_command w ↦
           rw (w.out-is, w.answers-is)
-          (Remains-more (answered_text-own _ _ _ _ _ _ _ c.commands-test.true c.command-item.is w.if-command-note.true w.in-Some.ensures.cases.0) c.commands.invariant
+          (Remains-more (answered_text-own _ _ _ _ _ _ _ c.commands-test.true c.command-item.is w.if-command-note.true
+          w.in-Some.ensures.cases.0) c.commands.invariant
           w.in_ok-write_command.ensures)
       | else-command-note w ↦
           rw (w.out-is, w.answers-is)

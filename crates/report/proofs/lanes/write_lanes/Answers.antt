@@ -6,9 +6,11 @@ use Rattle.report.proofs.lanes.write_lanes.Goals as goal
 
 pub returns-in_err-write_lane : goal.returns-in_err-write_lane
 returns-in_err-write_lane g c =
-    Remains-cut c.from_residual.ensures.0 (lanes-splits (map task_of c.args.commands.now) _ _ _ c.lanes-test.true c.note-item.is) c.lanes.invariant
+    Remains-cut c.from_residual.ensures.0
+    (lanes-splits (map task_of c.args.commands.now) _ _ _ c.lanes-test.true c.note-item.is) c.lanes.invariant
     c.in_err-write_lane.ensures
 
 pub lanes-preserved : goal.lanes-preserved
 lanes-preserved g c =
-    Remains-more (lanes-splits (map task_of c.args.commands.now) _ _ _ c.lanes-test.true c.note-item.is) c.lanes.invariant c.in_ok-write_lane.ensures
+    Remains-more (lanes-splits (map task_of c.args.commands.now) _ _ _ c.lanes-test.true c.note-item.is) c.lanes.invariant
+    c.in_ok-write_lane.ensures

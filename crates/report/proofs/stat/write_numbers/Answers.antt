@@ -4,7 +4,8 @@ use Rattle.report.proofs.stat.write_numbers.Goals as goal
 
 pub returns-in_err-write_number : goal.returns-in_err-write_number
 returns-in_err-write_number g c =
-    Remains-cut c.from_residual.ensures.0 (flat_map-splits (λ row. number_line row.0.now row.1) _ _ _ c.rows-test.true) c.rows.invariant c.in_err-write_number.ensures
+    Remains-cut c.from_residual.ensures.0
+    (flat_map-splits (λ row. number_line row.0.now row.1) _ _ _ c.rows-test.true) c.rows.invariant c.in_err-write_number.ensures
 
 pub rows-preserved : goal.rows-preserved
 rows-preserved g c =

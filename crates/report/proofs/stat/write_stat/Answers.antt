@@ -28,4 +28,5 @@ returns-in_err-write_sums g c =
 
 pub returns : goal.returns
 returns g c =
-    Wrote-then (Wrote-then (Wrote-then c.in_ok-write_number.ensures c.in_ok-write_quota.ensures) c.in_ok-write_sums.ensures) c.write_buckets.ensures
+    Wrote-then (Wrote-then (Wrote-then c.in_ok-write_number.ensures c.in_ok-write_quota.ensures) c.in_ok-write_sums.ensures)
+    c.write_buckets.ensures

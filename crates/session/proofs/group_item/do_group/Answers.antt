@@ -18,16 +18,20 @@ returns-clause-went g c s over apart =
     let told = told_of c.run_group-ended.new.note in
     let is = c.requires.is in
     let devices = between (g.D.Disk.state c.args.disk.now) (g.D.Disk.state c.run_group-ended.new.disk)
-    (g.W.Sink.written c.args.out.now) (g.W.Sink.written c.end_group.new.out) (g.W.Sink.faults c.args.out.now) (g.W.Sink.faults c.end_group.new.out) in (
+    (g.W.Sink.written c.args.out.now) (g.W.Sink.written c.end_group.new.out) (g.W.Sink.faults c.args.out.now)
+    (g.W.Sink.faults c.end_group.new.out) in (
       told ∷ [],
       c.end_group.ensures.noted,
       subst
           (λ (part : Part). ItemWent devices (lanes_in_turn (g.K.KeyOf.keying c.args.keyer.now)) s part (told ∷ [])
           c.run_group-ended.new.pool c.end_group.new.session.sealed c.end_group.result) (sym is)
-          (group_went devices (g.K.KeyOf.keying c.args.keyer.now) s c.args.group.now.moment (map task_of c.args.group.now.commands.items) told
-          c.run_group-ended.new.pool c.end_group.new.session.sealed c.pool-2.inside.sealed c.args.session.now.sealed c.run_group-ended.result c.end_group.result
+          (group_went devices (g.K.KeyOf.keying c.args.keyer.now) s c.args.group.now.moment
+          (map task_of c.args.group.now.commands.items) told
+          c.run_group-ended.new.pool c.end_group.new.session.sealed c.pool-2.inside.sealed c.args.session.now.sealed
+          c.run_group-ended.result c.end_group.result
           (c.run_group-ended.ensures.went s over (subst (HasNoClashIn (g.K.KeyOf.keying c.args.keyer.now).key_of s) is apart))
-          (on_ok c.run_group-ended.result (IsOnDisk (g.D.Disk.state c.run_group-ended.new.disk) (g.K.KeyOf.keying c.args.keyer.now).tag c.run_group-ended.new.pool)
+          (on_ok c.run_group-ended.result
+          (IsOnDisk (g.D.Disk.state c.run_group-ended.new.disk) (g.K.KeyOf.keying c.args.keyer.now).tag c.run_group-ended.new.pool)
           (c.run_group-ended.new.pool.tag ≡ (g.K.KeyOf.keying c.args.keyer.now).tag)
           (λ (on_disk : IsOnDisk (g.D.Disk.state c.run_group-ended.new.disk) (g.K.KeyOf.keying c.args.keyer.now).tag c.run_group-ended.new.pool). on_disk.tag_is)
           c.run_group-ended.ensures.on_disk)

@@ -13,7 +13,8 @@ use Rattle.session.proofs.group_item.run_group.Goals as goal
 
 pub seal_run-requires-clause-over : goal.seal_run-requires-clause-over
 seal_run-requires-clause-over g c κs outlives =
-    can_over (g.K.KeyOf.keying c.args.keyer.now) (g.D.Disk.state c.args.disk.now).seen (g.D.Disk.state c.run_group_plain.new.disk).seen c.args.pool.now
+    can_over (g.K.KeyOf.keying c.args.keyer.now) (g.D.Disk.state c.args.disk.now).seen
+    (g.D.Disk.state c.run_group_plain.new.disk).seen c.args.pool.now
     c.args.group.now.moment (map task_of c.args.group.now.commands.items) (told_of c.run_group_plain.new.note) (closed_of c.in-Ok.closed)
     (c.crash_laws.ensures.untold c.run_group_plain.new.disk) c.run_group_plain.ensures.stays c.requires.on_disk.told c.in-Ok.ensures.run
 
@@ -21,11 +22,13 @@ pub returns-in-Ok-clause-went : goal.returns-in-Ok-clause-went
 returns-in-Ok-clause-went g c s over apart =
     went_since _ (g.K.KeyOf.keying c.args.keyer.now) c.args.pool.now s over c.requires.on_disk.tag_is
     _ c.run_group_plain.ensures.stays c.run_group_plain.ensures.crash c.run_group_plain.ensures.any_moment
-    _ c.args.group.now.moment (map task_of c.args.group.now.commands.items) (told_of c.seal_run.new.note) c.seal_run.new.pool c.seal_run.result
+    _ c.args.group.now.moment (map task_of c.args.group.now.commands.items)
+    (told_of c.seal_run.new.note) c.seal_run.new.pool c.seal_run.result
     (c.seal_run.ensures.went (g.K.KeyOf.keying c.args.keyer.now) s c.args.group.now.moment (map task_of c.args.group.now.commands.items)
     (has_run _ (g.K.KeyOf.keying c.args.keyer.now) c.args.pool.now s over c.requires.on_disk.tag_is
     _ c.run_group_plain.ensures.stays c.run_group_plain.ensures.crash c.run_group_plain.ensures.any_moment
-    c.args.group.now.moment (map task_of c.args.group.now.commands.items) (told_of c.run_group_plain.new.note) (closed_of c.in-Ok.closed) apart
+    c.args.group.now.moment (map task_of c.args.group.now.commands.items) (told_of c.run_group_plain.new.note)
+    (closed_of c.in-Ok.closed) apart
     c.in-Ok.ensures.run c.in-Ok.ensures.room (told_of c.args.note.now) c.requires.new c.run_group_plain.ensures.kept))
 
 pub returns-in-Ok-clause-ended : goal.returns-in-Ok-clause-ended
@@ -39,7 +42,8 @@ returns-in-Err-clause-went g c s over apart =
     _ c.run_group_plain.ensures.stays c.run_group_plain.ensures.crash c.run_group_plain.ensures.any_moment
     c.args.group.now.moment (map task_of c.args.group.now.commands.items)
     c.in-Err.fault (told_of c.refuse.new.note) c.refuse.result c.refuse.ensures.answered
-    (noted_refused (told_of c.refuse.new.note) (told_of c.run_group_plain.new.note) (told_of c.args.note.now) (c.args.pool.now.group + 1) (outcome_by c.in-Err.fault)
+    (noted_refused (told_of c.refuse.new.note) (told_of c.run_group_plain.new.note) (told_of c.args.note.now) (c.args.pool.now.group + 1)
+    (outcome_by c.in-Err.fault)
     c.refuse.ensures.noted c.run_group_plain.ensures.kept
     (ap (λ (notes : List LaneNote). map lane_told notes) c.in-Err.ensures.unnoted) c.requires.new)
     (λ needed left same. c.run_group_plain.ensures.no_space needed left (c.in-Err.is ∙ ap Err same))

@@ -27,7 +27,9 @@ returns-in-Err-clause-went g c keying s moment tasks ran =
     (cut_now keying _ _ c.args.pool.now s moment tasks (told_of c.args.note.now) (closed_of c.args.closed.now) ran
     (told_of c.args.note.now) c.in-Err.fault (ap (λ (o : Outcome). record (told_of c.args.note.now) { outcome = o }) c.requires.cut)
     c.crash_laws-2.ensures.here left.0 left.1 left.3
-    (λ same. c.sync-sealed.ensures.before_the_gate ran.over.image s ran.over.told ran.over.quiet ran.over.stands (c.in-Err.is ∙ ap Err same))
+    (λ same. c.sync-sealed.ensures.before_the_gate ran.over.image s ran.over.told ran.over.quiet ran.over.stands
+    (c.in-Err.is ∙ ap Err same))
     (λ same d out. subst (λ disk. (g.D.Disk.state disk).may_leave d) (c.sync-sealed.ensures.unwritten (c.in-Err.is ∙ ap Err same)) out)
-    (λ sector same d out. subst (λ disk. (g.D.Disk.state disk).may_leave d) (c.sync-sealed.ensures.damaged sector (c.in-Err.is ∙ ap Err same)).0 out)
+    (λ sector same d out. subst (λ disk. (g.D.Disk.state disk).may_leave d)
+    (c.sync-sealed.ensures.damaged sector (c.in-Err.is ∙ ap Err same)).0 out)
     (λ same. c.sync-sealed.ensures.unread_crash (c.in-Err.is ∙ ap Err same)))

@@ -8,7 +8,8 @@ use Rattle.session.proofs.looking.create_pool.Goals as goal
 pub returns-in-Ok-clause-created : goal.returns-in-Ok-clause-created
 returns-in-Ok-clause-created g c image told =
     creates _ _ (g.K.KeyOf.keying c.args.keyer.now).tag image _ _ _ _ c.in-Ok._pool
-    (subst (λ t. IsNewPool (g.D.Disk.state c.args.disk.now) (g.D.Disk.state c.make_pool.new.disk) t image c.in-Ok._pool) c.tag.ensures (c.in-Ok.ensures.made image told))
+    (subst (λ t. IsNewPool (g.D.Disk.state c.args.disk.now) (g.D.Disk.state c.make_pool.new.disk) t image c.in-Ok._pool) c.tag.ensures
+    (c.in-Ok.ensures.made image told))
     c.write_text.result c.write_text.ensures.cause c.write_text.ensures.text
 
 pub returns-in-Err-clause-created : goal.returns-in-Err-clause-created

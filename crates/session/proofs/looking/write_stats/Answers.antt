@@ -9,7 +9,9 @@ use Rattle.session.proofs.looking.write_stats.Goals as goal
 pub returns-clause-told : goal.returns-clause-told
 returns-clause-told g c image p table is =
     told_of_pool
-    (λ group quota stats. WritesSo c.write_text.result (stat_text group quota stats) (g.W.Sink.written c.args.out.now) (g.W.Sink.written c.write_text.new.out))
+    (λ group quota stats. WritesSo c.write_text.result (stat_text group quota stats) (g.W.Sink.written c.args.out.now)
+    (g.W.Sink.written c.write_text.new.out))
     image c.args.pool.now p table
-    c.pool.inside.sealed c.pool.inside.limit c.in-Ok.stats is (ap (λ (h : Held). h.group) c.pool.view_is) (ap (λ (h : Held). h.quota) c.pool.view_is)
+    c.pool.inside.sealed c.pool.inside.limit c.in-Ok.stats is (ap (λ (h : Held). h.group) c.pool.view_is)
+    (ap (λ (h : Held). h.quota) c.pool.view_is)
     (c.in-Ok.ensures image p table is) c.write_text.ensures.text

@@ -17,24 +17,28 @@ returns-clause-went g c s over =
     let now = c.in_default.ensures.over s over in
     let sealed_is = ap (λ (h : Held). h.group) c.pool.view_is ∙ now.stands.is_held.group_is in
     told_went
-    (between (g.D.Disk.state c.args.disk.now) (g.D.Disk.state c.import_again.new.disk) (g.W.Sink.written c.args.out.now) (g.W.Sink.written c.write_item.new.out)
+    (between (g.D.Disk.state c.args.disk.now) (g.D.Disk.state c.import_again.new.disk) (g.W.Sink.written c.args.out.now)
+    (g.W.Sink.written c.write_item.new.out)
     (g.W.Sink.faults c.args.out.now) (g.W.Sink.faults c.write_item.new.out))
     (lanes_in_turn keying) s c.import_again.new.pool c.pool.inside.sealed sealed_is
     (nothing_new _ keying c.args.pool.now s over c.requires.on_disk.tag_is [] c.import_again.ensures.any_moment)
     (part_of c.args.item.now) (subst (λ (i : Item). IsPlain (part_of i)) (sym c.requires.is) tt)
     c.tell.result c.write_item.result _ c.tell.ensures c.write_item.ensures
     (import_text c.args.item.now c.requires.is _ c.pool.inside.sealed None s.pool sealed_is) now
-    (λ image left. over_leaves _ c.args.pool.now s keying.tag over c.requires.on_disk.tag_is image (c.import_again.ensures.no_more image left))
+    (λ image left. over_leaves _ c.args.pool.now s keying.tag over c.requires.on_disk.tag_is image
+    (c.import_again.ensures.no_more image left))
 
 pub returns-in-Err-clause-went : goal.returns-in-Err-clause-went
 returns-in-Err-clause-went g c s over =
     let keying = g.K.KeyOf.keying c.args.keyer.now in
     plain_stopped
-    (between (g.D.Disk.state c.args.disk.now) (g.D.Disk.state c.import_again.new.disk) (g.W.Sink.written c.args.out.now) (g.W.Sink.written c.args.out.now)
+    (between (g.D.Disk.state c.args.disk.now) (g.D.Disk.state c.import_again.new.disk) (g.W.Sink.written c.args.out.now)
+    (g.W.Sink.written c.args.out.now)
     (g.W.Sink.faults c.args.out.now) (g.W.Sink.faults c.args.out.now))
     (lanes_in_turn keying) s c.import_again.new.pool c.args.session.now.sealed (c.requires.sealed ∙ over.stands.is_held.group_is)
     (nothing_new _ keying c.args.pool.now s over c.requires.on_disk.tag_is [] c.import_again.ensures.any_moment)
     (part_of c.args.item.now) (subst (λ (i : Item). IsPlain (part_of i)) (sym c.requires.is) tt)
     c.in-Err.status (λ same. c.in-Err.ensures.device (ap Err same))
-    (λ image left. over_leaves _ c.args.pool.now s keying.tag over c.requires.on_disk.tag_is image (c.import_again.ensures.no_more image left))
+    (λ image left. over_leaves _ c.args.pool.now s keying.tag over c.requires.on_disk.tag_is image
+    (c.import_again.ensures.no_more image left))
     (Keeps-refl (g.W.Sink.written c.args.out.now))

@@ -6,8 +6,10 @@ use Rattle.session.proofs.plain_item.import_again.Goals as goal
 
 pub returns-in-Ok-Some-clause-over : goal.returns-in-Ok-Some-clause-over
 returns-in-Ok-Some-clause-over g c s over =
-    let given : (c.in-Ok-Some.found.tag ≡ (g.K.KeyOf.keying c.args.keyer.now).tag) × IsFoundOver (g.D.Disk.state c.args.disk.now).seen c.in-Ok-Some.found =
-    of_found (λ (held : Held). (held.tag ≡ (g.K.KeyOf.keying c.args.keyer.now).tag) × IsFoundOver (g.D.Disk.state c.args.disk.now).seen held)
+    let given : (c.in-Ok-Some.found.tag ≡ (g.K.KeyOf.keying c.args.keyer.now).tag)
+    × IsFoundOver (g.D.Disk.state c.args.disk.now).seen c.in-Ok-Some.found =
+    of_found (λ (held : Held). (held.tag ≡ (g.K.KeyOf.keying c.args.keyer.now).tag)
+    × IsFoundOver (g.D.Disk.state c.args.disk.now).seen held)
     c.in-Ok-Some.field-0 c.in-Ok-Some.found c.in-Ok-Some.field-0-is c.in-Ok-Some.ensures.pool in
     found_over (g.K.KeyOf.keying c.args.keyer.now).tag _ _ c.args.pool.now c.in-Ok-Some.found s c.requires.on_disk.tag_is given.0 given.1
     over c.import-found.ensures.stays c.in-Ok-Some.ensures.durable

@@ -55,7 +55,8 @@ returns-in_default-open_slot-clause-at_the_gate g c fault =
 
 pub returns-clause-sealed : goal.returns-clause-sealed
 returns-clause-sealed g c =
-    begins_of c.args.tag _ _ _ _ _ _ (subst (λ n. 2048 ≤ n) (sym c.sectors.ensures.count) c.requires.enough) (subst (λ n. n ≤ 1000000) (sym c.sectors.ensures.count) c.requires.few) c.sectors.ensures.told c.requires.none
+    begins_of c.args.tag _ _ _ _ _ _ (subst (λ n. 2048 ≤ n) (sym c.sectors.ensures.count) c.requires.enough)
+    (subst (λ n. n ≤ 1000000) (sym c.sectors.ensures.count) c.requires.few) c.sectors.ensures.told c.requires.none
     c.seal_fits.ensures c.new_seal-seal.ensures c.in_ok-take_slot.ensures.taken c.in-Ok.ensures.filled c.in-Ok-open_slot.ensures.opened
 
 pub returns-clause-any_moment : goal.returns-clause-any_moment

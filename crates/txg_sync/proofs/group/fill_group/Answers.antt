@@ -36,7 +36,8 @@ returns-in_default-fill_slot-clause-any_moment g c image told pending =
     c.sectors-sectors.ensures.told in
     let behind = group_behind sectors c.args.contents.now c.args.parts.now c.requires.behind c.requires.places in
     let within = group_within sectors c.args.contents.now c.requires.within in
-    let rooted = rooted_is c.args.seal.now c.with_pointers-sealed.result c.args.parts.now c.store_group.new.pointers _ c.with_pointers-sealed.ensures c.in-Ok.ensures.roots c.requires.chains refl in
+    let rooted = rooted_is c.args.seal.now c.with_pointers-sealed.result c.args.parts.now c.store_group.new.pointers _
+    c.with_pointers-sealed.ensures c.in-Ok.ensures.roots c.requires.chains refl in
     let P = ChainLeaves (group_places (map stored_of c.args.contents.now) c.args.parts.now)
     (g.D.Disk.state c.take_slot.new.disk).may_leave in
     group_filling sectors c.requires.enough c.args.seal.now (map stored_of c.args.contents.now) c.args.parts.now behind within image _ told
@@ -55,8 +56,10 @@ returns-clause-filled g c =
     c.sectors-stored.ensures.told in
     let behind = group_behind sectors c.args.contents.now c.args.parts.now c.requires.behind c.requires.places in
     let within = group_within sectors c.args.contents.now c.requires.within in
-    let rooted = rooted_is c.args.seal.now c.with_pointers-sealed.result c.args.parts.now c.store_group.new.pointers _ c.with_pointers-sealed.ensures c.in-Ok.ensures.roots c.requires.chains refl in
-    fills_of sectors c.requires.enough c.args.seal.now (map stored_of c.args.contents.now) c.args.parts.now behind within c.with_pointers-sealed.result rooted c.seal_fits.ensures
+    let rooted = rooted_is c.args.seal.now c.with_pointers-sealed.result c.args.parts.now c.store_group.new.pointers _
+    c.with_pointers-sealed.ensures c.in-Ok.ensures.roots c.requires.chains refl in
+    fills_of sectors c.requires.enough c.args.seal.now
+    (map stored_of c.args.contents.now) c.args.parts.now behind within c.with_pointers-sealed.result rooted c.seal_fits.ensures
     _ _ _ _ tells c.in_ok-take_slot.ensures.taken c.in-Ok.ensures.stored whole c.in-Ok-fill_slot.ensures.filled
 
 pub returns-clause-any_moment : goal.returns-clause-any_moment
@@ -66,7 +69,8 @@ returns-clause-any_moment g c image told pending =
     c.sectors-sectors.ensures.told in
     let behind = group_behind sectors c.args.contents.now c.args.parts.now c.requires.behind c.requires.places in
     let within = group_within sectors c.args.contents.now c.requires.within in
-    let rooted = rooted_is c.args.seal.now c.with_pointers-sealed.result c.args.parts.now c.store_group.new.pointers _ c.with_pointers-sealed.ensures c.in-Ok.ensures.roots c.requires.chains refl in
+    let rooted = rooted_is c.args.seal.now c.with_pointers-sealed.result c.args.parts.now c.store_group.new.pointers _
+    c.with_pointers-sealed.ensures c.in-Ok.ensures.roots c.requires.chains refl in
     let P = ChainLeaves (group_places (map stored_of c.args.contents.now) c.args.parts.now)
     (g.D.Disk.state c.take_slot.new.disk).may_leave in
     group_filling sectors c.requires.enough c.args.seal.now (map stored_of c.args.contents.now) c.args.parts.now behind within image _ told

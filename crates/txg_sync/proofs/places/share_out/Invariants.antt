@@ -9,5 +9,6 @@ abbrev pub invariant-lists : goal.invariant-lists
 invariant-lists l =
     (goal.iterator-lists).can_next l.records-iterator
     × (goal.iterator-lists).is_finite l.records-iterator
-    × (l.parts.items ++ parts_of (map (λ records. records.items) (into_iter_items l.records-iterator)) (drop l.from l.places) ≡ parts_of (map (λ records. records.items) l.fn.lists.items) l.places)
+    × (l.parts.items ++ parts_of (map (λ records. records.items) (into_iter_items l.records-iterator)) (drop l.from l.places) ≡ parts_of
+    (map (λ records. records.items) l.fn.lists.items) l.places)
     × (l.from + pages_of (map (λ records. records.items) (into_iter_items l.records-iterator)) ≡ length l.places)

@@ -39,5 +39,7 @@ returns-clause-planned c =
     (subst (λ (s : List SlotRecord). ArePlaced c.args.pool.now.used (closed_of c.args.closed.now).contents
     (records_in s c.in_ok-table.table) c.in-Some.parts.items) c.as_slice.ensures placed)
     (c.in_ok-pages.ensures ∙ ap places_in c.as_slice-2.ensures.value)
-    (λ roots. c.in_ok-seal.ensures roots ∙ ap (λ n. seal_of c.args.pool.now.tag c.args.pool.now.sectors (c.args.pool.now.group + 1) c.args.closed.now.modes c.args.closed.now.quota c.in_ok-table.table roots n) c.len.ensures)
+    (λ roots. c.in_ok-seal.ensures roots
+    ∙ ap (λ n. seal_of c.args.pool.now.tag c.args.pool.now.sectors
+    (c.args.pool.now.group + 1) c.args.closed.now.modes c.args.closed.now.quota c.in_ok-table.table roots n) c.len.ensures)
     c.in_ok-next.ensures

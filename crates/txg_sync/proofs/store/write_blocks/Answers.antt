@@ -11,7 +11,8 @@ use Rattle.txg_sync.proofs.store.write_blocks.Goals as goal
 
 pub returns-in_err-write-clause-touched : goal.returns-in_err-write-clause-touched
 returns-in_err-write-clause-touched g c =
-    block_torn c.args.contents.now c.each.stored-index c.stored-item.result c.each-test.true c.stored-item.is _ _ _ c.each.invariant.2 c.in_err-write.ensures.touched
+    block_torn c.args.contents.now c.each.stored-index c.stored-item.result c.each-test.true c.stored-item.is _ _ _ c.each.invariant.2
+    c.in_err-write.ensures.touched
 
 pub returns-in_err-write-clause-any_moment : goal.returns-in_err-write-clause-any_moment
 returns-in_err-write-clause-any_moment g c =
@@ -29,8 +30,10 @@ each-preserved g c =
     let held = subst (λ (b : List ℕ). Holds (g.D.Disk.state c.each.disk).seen (g.D.Disk.state c.write.new.self).seen
     c.stored-item.result.place b) bytes c.in_ok-write.ensures.written in (
       keeps_on c.each.invariant.0 c.write.ensures.accounts.keeps,
-      stores_more c.args.contents.now c.each.stored-index c.stored-item.result c.each-test.true c.stored-item.is _ _ _ c.each.invariant.1 held,
-      block_touched c.args.contents.now c.each.stored-index c.stored-item.result c.each-test.true c.stored-item.is _ _ _ c.each.invariant.2 held,
+      stores_more c.args.contents.now c.each.stored-index c.stored-item.result c.each-test.true c.stored-item.is _ _ _ c.each.invariant.1
+          held,
+      block_touched c.args.contents.now c.each.stored-index c.stored-item.result c.each-test.true c.stored-item.is _ _ _ c.each.invariant.2
+          held,
       goes_on c.each.invariant.3 c.write.ensures.time (λ c' left. leaves c' (c.write.ensures.crash c' left)),
       λ c' left. leaves c' (c.write.ensures.crash c' left),
     )

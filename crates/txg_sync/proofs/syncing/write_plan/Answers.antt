@@ -26,17 +26,20 @@ seal_group-sealed-requires-clause-version g c κs outlives =
 
 pub seal_group-sealed-requires-clause-behind : goal.seal_group-sealed-requires-clause-behind
 seal_group-sealed-requires-clause-behind g c κs outlives =
-    subst (λ (cs : List StoredBlock). (k : ℕ) (d : StoredBlock) → k < length cs → 32 ≤ (slice_index_or cs k d).place) (sym c.as_slice-2.ensures) (stored_at (λ s. 32 ≤ s.place) c.args.closed.now.contents.items c.requires.range.behind)
+    subst (λ (cs : List StoredBlock). (k : ℕ) (d : StoredBlock) → k < length cs → 32 ≤ (slice_index_or cs k d).place)
+    (sym c.as_slice-2.ensures) (stored_at (λ s. 32 ≤ s.place) c.args.closed.now.contents.items c.requires.range.behind)
 
 pub seal_group-sealed-requires-clause-within : goal.seal_group-sealed-requires-clause-within
 seal_group-sealed-requires-clause-within g c κs outlives =
     subst (λ (cs : List StoredBlock). (k : ℕ) (d : StoredBlock) → k < length cs → (slice_index_or cs k d).place <
     (g.D.Disk.state c.args.disk.now).sectors) (sym c.as_slice-2.ensures)
-    (λ k d inside. omega (arith, c.requires.on_disk, stored_at (λ s. s.place < c.args.pool.now.sectors) c.args.closed.now.contents.items c.requires.range.on_disk k d inside))
+    (λ k d inside. omega
+    (arith, c.requires.on_disk, stored_at (λ s. s.place < c.args.pool.now.sectors) c.args.closed.now.contents.items c.requires.range.on_disk k d inside))
 
 pub seal_group-sealed-requires-clause-lengths : goal.seal_group-sealed-requires-clause-lengths
 seal_group-sealed-requires-clause-lengths g c κs outlives =
-    subst (λ (cs : List StoredBlock). (k : ℕ) (d : StoredBlock) → k < length cs → length (slice_index_or cs k d).block.items ≤ 4096) (sym c.as_slice-2.ensures) (stored_at (λ s. length s.bytes ≤ 4096) c.args.closed.now.contents.items c.requires.range.blocks)
+    subst (λ (cs : List StoredBlock). (k : ℕ) (d : StoredBlock) → k < length cs → length (slice_index_or cs k d).block.items ≤ 4096)
+    (sym c.as_slice-2.ensures) (stored_at (λ s. length s.bytes ≤ 4096) c.args.closed.now.contents.items c.requires.range.blocks)
 
 pub seal_group-sealed-requires-clause-places : goal.seal_group-sealed-requires-clause-places
 seal_group-sealed-requires-clause-places g c κs outlives =

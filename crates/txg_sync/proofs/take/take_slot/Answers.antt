@@ -4,7 +4,8 @@ use Rattle.txg_sync.proofs.Taking.{may_take, not_taken, takes_of, while_taken}
 use Rattle.txg_sync.proofs.take.take_slot.Goals as goal
 
 pub returns-clause-taken : goal.returns-clause-taken
-returns-clause-taken g c = takes_of c.args.slot _ c.in-Ok-answer.was_open _ _ _ _ c.sectors-sectors.ensures.told c.requires.slot (subst (λ n. 32 ≤ n) (sym c.sectors-sectors.ensures.count) c.requires.ring)
+returns-clause-taken g c = takes_of c.args.slot _ c.in-Ok-answer.was_open _ _ _ _ c.sectors-sectors.ensures.told c.requires.slot
+    (subst (λ n. 32 ≤ n) (sym c.sectors-sectors.ensures.count) c.requires.ring)
     c.meter.ensures.contents c.in-Ok-answer.ensures.gate c.retire.ensures.contents c.in-Ok-close_slot.ensures.closed
 
 pub returns-clause-any_moment : goal.returns-clause-any_moment

@@ -6,4 +6,5 @@ use Rattle.plain_run.specs.Openings.{opening_by}
 use Rattle.plain_run.proofs.course.PlainCourse.changes_of.Given as goal
 
 abbrev pub invariant-loop-key : goal.invariant-loop-key
-invariant-loop-key l = (key_of : List ℕ → Key) → l.changes.items ≡ filter_map (change_of (opening_by key_of l.opening) l.self) (take l.key-index l.key-items)
+invariant-loop-key l = (key_of : List ℕ → Key)
+    → l.changes.items ≡ filter_map (change_of (opening_by key_of l.opening) l.self) (take l.key-index l.key-items)
