@@ -5,8 +5,8 @@
 //! nobody knows, so it tells nothing of its contents (`specs/Untold.antt`); it tells how many sectors there are,
 //! and counts the calls that failed, as each disk does.
 //!
-//! The file is open once for writes and barriers, and holds the lock by which a second program is refused. Each meter is
-//! an open of its own by the path, which has to lead to the same file still. No call here waits for another program.
+//! The file is opened once, and that open holds the lock by which a second program is refused. Writes and barriers go through
+//! it, and each meter is a handle of its own of the same open. No call here waits for another program.
 #![tactic(auto)]
 
 mod file_disk;
