@@ -1,10 +1,10 @@
 -- A step that is allowed fits the base of the tests' group.
-use Rattle.std.proofs.Common.{◌≡◌, ◌<◌, ℕ, zero, suc, List, [], ◌∷◌, replicate, slice_index_or, Option, None, Some, refl, sym, ap, ◌∙◌, subst, arith}
+use Rattle.std.proofs.Common.{◌≡◌, ◌<◌, ℕ, zero, suc, List, [], ◌∷◌, slice_index_or, Option, None, Some, refl, sym, ap, ◌∙◌, subst, arith}
 use Rattle.std.proofs.lemmas.List.{get_or-replicate}
 use Rattle.ddt_entry.specs.declared.entry.Home.{Home}
 use Rattle.live_core.specs.declared.steps.Step.{Step}
 use Rattle.live_core.specs.declared.steps.Step.TheVariants.{Claim, Loaded, Failed, Ref, Unref}
-use Rattle.live_core.specs.Bases.{Told, Base, IsToldHome, IsNoneOrHome, write_at, Fits}
+use Rattle.live_core.specs.Bases.{Base, IsToldHome, IsNoneOrHome, Fits}
 use Rattle.live_core_tests.specs.Groups.{writes, IsOfGroup, IsAllowed}
 
 abbrev row : List (Option ℕ)

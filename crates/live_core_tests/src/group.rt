@@ -1,5 +1,5 @@
 //! A core of eight keys over a group that tells no home, for tests that take any step.
-ghost use Rattle.std.specs.Prelude.{◌≡◌, ◌≤◌};
+ghost use Rattle.std.specs.Prelude.{◌≡◌, ◌*◌, ◌≤◌, [], IfOk};
 ghost use Rattle.live_core.specs.Bases.{IsHome};
 ghost use Rattle.live_core_tests.specs.Groups.{IsAllowed, IsOfGroup};
 
@@ -84,6 +84,34 @@ fn assert_allowed(rt: &impl Abort, step: Step)
     }
 }
 
+/// A core of the group, with room for three events a command.
+pub fn core_of(
+    rt: &impl Abort,
+    alloc: Global,
+    homes: u64,
+    quota: Option<u64>,
+    commands: u64,
+) -> Result<Core<Group>, AllocError>
+    ensures of_group { IfOk result (λ core. IsOfGroup core.base) }
+    ensures fresh { IfOk result (λ core. core.history ≡ []) }
+    ensures room { IfOk result (λ core. 3 * commands ≤ core.spare) }
+{
+    assert!(rt; homes <= 1_048_576);
+    assert!(rt; commands <= 65_536);
+    let group = group_of(alloc)?;
+    assert!(rt; group.keys.len() <= 65_536);
+    Core::new(
+        alloc,
+        &group,
+        group.keys.as_slice(),
+        homes,
+        quota,
+        NUMBER,
+        MOMENT,
+        commands,
+    )
+}
+
 impl Bench {
     /// A core without a history, with room for three times as many steps as commands.
     pub fn open(
@@ -93,20 +121,8 @@ impl Bench {
         quota: Option<u64>,
         commands: u64,
     ) -> Result<Bench, AllocError> {
-        assert!(rt; homes <= 1_048_576);
         assert!(rt; commands <= 65_536);
-        let group = group_of(alloc)?;
-        assert!(rt; group.keys.len() <= 65_536);
-        let core = Core::new(
-            alloc,
-            &group,
-            group.keys.as_slice(),
-            homes,
-            quota,
-            NUMBER,
-            MOMENT,
-            commands,
-        )?;
+        let core = core_of(rt, alloc, homes, quota, commands)?;
         Ok(Bench {
             core,
             left: 3 * commands,

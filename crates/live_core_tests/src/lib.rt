@@ -1,9 +1,11 @@
-//! The core of a group at work: every row of its table of steps, a long walk beside a slow machine, and lanes in threads.
+//! The core of a group at work: every row of its table of steps, a long walk beside a slow machine, and a lock round a core.
 //!
 //! Nothing here is used by another crate. `group` is a core of eight keys that takes any step that is allowed; `rows` has the
-//! table; `slow` answers a step by the history alone, and `walk` chooses steps for both.
+//! table; `slow` answers a step by the history alone, and `walk` chooses steps for both. `behind_lock` has a core in a lock.
 #![tactic(auto)]
 
+#[cfg(test)]
+mod behind_lock;
 #[cfg(test)]
 mod group;
 #[cfg(test)]
