@@ -52,3 +52,40 @@ pub fn used_after(
     mark_homes(&mut used, waiting.as_slice());
     Ok(used)
 }
+
+#[cfg(test)]
+mod tests {
+    use super::*;
+    use ddt_entry::{Key, Pointer, SlotKind};
+    use std::test::Fail;
+
+    #[test]
+    fn the_ring_the_pages_and_the_slots_are_used(rt: HostRuntime) -> Result<(), Fail> {
+        let key = Key {
+            digest: [1; 32],
+            len: 5,
+        };
+        let slot = SlotRecord {
+            lane: 0,
+            slot: 3,
+            pointer: Pointer {
+                key,
+                place: 36,
+                birth: 1,
+                kind: SlotKind::Plain,
+            },
+        };
+        let table = PlainTable::new(rt.alloc());
+        let used = used_after(
+            rt.alloc(),
+            40,
+            [34, 33].as_slice(),
+            [slot].as_slice(),
+            &table,
+        )?;
+        assert_eq!(rt; used.free(), 5);
+        let free = used.free_places(rt.alloc(), 5)?.ok_or("five are free")?;
+        assert_eq!(rt; free.as_slice(), [32, 35, 37, 38, 39].as_slice());
+        Ok(())
+    }
+}
