@@ -1,11 +1,12 @@
--- What the program's session over a disk in memory comes to.
-use Rattle.std.specs.Prelude.{◌≡◌, ℕ, Some}
+-- What the program's session comes to, over whatever disk and over a new one in memory.
+use Rattle.std.specs.Prelude.{◌≡◌, ℕ, List, [], Option, Some}
 use Rattle.ddt_entry.specs.Keys.{Keying, sha256_key}
 use Rattle.disk_model.specs.Images.{Image}
-use Rattle.disk_model.specs.Crashes.{NothingPending}
+use Rattle.disk_model.specs.Crashes.{DiskState, NothingPending}
+use Rattle.disk_model.specs.Memory.{MemoryDisk, state_of, new_disk, padded}
 use Rattle.pool_model.specs.declared.notes.Session.{Session}
 use Rattle.pool_model.specs.Group.{lanes_in_turn}
-use Rattle.session.specs.Devices.{Devices, Input}
+use Rattle.session.specs.Devices.{Devices, Input, between}
 use Rattle.session.specs.Looking.{Creates, LookCause, Tells}
 use Rattle.session.specs.Entries.{IsLawfulSize}
 use Rattle.session.specs.Running.{HasCauseFor, RanOver, ReadSo, SizedSo, faults_in}
@@ -13,6 +14,7 @@ use Rattle.session.specs.declared.status.Status.{Status}
 use Rattle.session.specs.declared.words.Look.{Look}
 use Rattle.session.specs.declared.words.Look.TheVariants.{Create, Stat}
 use Rattle.session.specs.declared.words.Word.{Word}
+use Rattle.dedup_tool.specs.Ending.{by_memory}
 
 -- keys by SHA-256
 abbrev pub by_sha256 : Keying
@@ -39,3 +41,39 @@ pub record Looked (devices : Devices) (look : Look) (status : Status) : Type 0 w
 -- where a pool is to be made on a disk whose size isn't lawful, that ends the session, if neither the file nor want of memory did
 abbrev pub MakesOnly : (sectors : ℕ) → Status → Type 0
 MakesOnly sectors status = (IsLawfulSize sectors → ⊥) → SizedSo status Unit
+
+-- a session that ran a command file over a disk, whatever was on the standard streams
+pub record ServedFile (before after : DiskState) (word : Word) (status : Status) : Type 0 where
+  pub written : Option (List ℕ)
+  pub now : Option (List ℕ)
+  pub sink_before : ℕ
+  pub sink_now : ℕ
+  pub input : Input
+  pub session : Session
+  pub ran : Ran (between before after written now sink_before sink_now) input word session status
+
+-- a session that ran none over a disk, whatever was on the standard streams
+pub record ServedLook (before after : DiskState) (look : Look) (status : Status) : Type 0 where
+  pub written : Option (List ℕ)
+  pub now : Option (List ℕ)
+  pub sink_before : ℕ
+  pub sink_now : ℕ
+  pub looked : Looked (between before after written now sink_before sink_now) look status
+
+-- a new disk in memory
+abbrev pub blank : (sectors : ℕ) → MemoryDisk
+blank sectors = new_disk sectors (padded sectors [])
+
+-- a session that ran a command file over a new disk in memory ended so
+pub record RanInMemory (sectors : ℕ) (word : Word) (status : Status) : Type 0 where
+  pub disk : MemoryDisk
+  pub served : Status
+  pub ended : status ≡ by_memory disk.starved served
+  pub ran : ServedFile (state_of (blank sectors)) (state_of disk) word served
+
+-- a session that ran none over a new disk in memory ended so
+pub record LookedInMemory (sectors : ℕ) (look : Look) (status : Status) : Type 0 where
+  pub disk : MemoryDisk
+  pub served : Status
+  pub ended : status ≡ by_memory disk.starved served
+  pub looked : ServedLook (state_of (blank sectors)) (state_of disk) look served

@@ -8,18 +8,21 @@
 //! and the files of the real machine, of which nothing is known but what std says of them.
 #![tactic(auto)]
 
-ghost use Rattle.std.specs.Prelude.{◌≡◌, ◌≢◌, ◌≤◌, ◌↔◌, map, string_bytes, IfOk, None, Some};
+ghost use Rattle.std.specs.Prelude.{◌≡◌, ◌≢◌, ◌≤◌, ◌↔◌, ◌⊎◌, ℕ, map, string_bytes, IfOk, IfErr, None, Some};
 ghost use Rattle.disk_model.specs.Crashes.{NothingPending};
 ghost use Rattle.pool_model.specs.declared.notes.Session.{Session};
 ghost use Rattle.session.specs.Devices.{between, reading};
+ghost use Rattle.session.specs.Entries.{IsLawfulSize};
 ghost use Rattle.session.specs.Faults.{code_of};
+ghost use Rattle.session.specs.Running.{SizedSo};
 ghost use Rattle.session.specs.Words.{running_words, looking_words};
 ghost use Rattle.session.specs.declared.status.Status.{Status};
 ghost use Rattle.session.specs.declared.words.Look.{Look};
 ghost use Rattle.session.specs.declared.words.Word.{Word};
 ghost use Rattle.dedup_tool.specs.Opened.{AskForNone, IsUsage};
-ghost use Rattle.dedup_tool.specs.Serving.{Looked, MakesOnly, Ran};
+ghost use Rattle.dedup_tool.specs.Serving.{Looked, LookedInMemory, MakesOnly, Ran, RanInMemory, ServedFile, ServedLook};
 ghost use Rattle.dedup_tool.specs.declared.asking.Asked.{Asked};
+ghost use Rattle.dedup_tool.specs.declared.image.Image.{Image};
 
 mod asking;
 mod ending;
@@ -89,6 +92,9 @@ fn serve<D: Disk, S: Source, W: Sink>(
         → Looked (between (D.state disk.old) (D.state disk.new) (W.written out.old) (W.written out.new) (W.faults out.old) (W.faults out.new))
         look result }
     ensures makes { running_words (map string_bytes words.now) ≡ Some Word.Make → MakesOnly (D.state disk.old).sectors result }
+    ensures creates { looking_words (map string_bytes words.now) ≡ Some Look.Create → (IsLawfulSize (D.state disk.old).sectors → ⊥)
+        → SizedSo result ((disk.new ≡ disk.old) × (out.new ≡ out.old)) }
+    ensures unread { (look : Look) → looking_words (map string_bytes words.now) ≡ Some look → input.new ≡ input.old }
     ensures sectors { (D.state disk.new).sectors ≡ (D.state disk.old).sectors }
     ensures writes { (D.state disk.old).write_faults ≤ (D.state disk.new).write_faults }
     ensures sink { W.faults out.old ≤ W.faults out.new }
@@ -106,7 +112,7 @@ fn serve<D: Disk, S: Source, W: Sink>(
 }
 
 /// Does the session of these words over a disk with the standard streams, and answers how it ended. Want of memory for
-/// the words themselves touches the disk as little as words of no session.
+/// the words themselves touches the disk as little as words of no session. What the streams gave and took nobody knows.
 fn run_words<R: Input + Print, D: Disk>(
     rt: &R,
     alloc: Global,
@@ -116,6 +122,10 @@ fn run_words<R: Input + Print, D: Disk>(
     requires quiet { NothingPending (D.state disk.old).seen (D.state disk.old).may_leave }
     ensures usage { IsUsage (map string_bytes words.now) result }
     ensures untouched { AskForNone (map string_bytes words.now) → disk.new ≡ disk.old }
+    ensures ran { (word : Word) → running_words (map string_bytes words.now) ≡ Some word
+        → ((result ≡ Status.OutOfMemory) × (disk.new ≡ disk.old)) ⊎ ServedFile (D.state disk.old) (D.state disk.new) word result }
+    ensures looked { (look : Look) → looking_words (map string_bytes words.now) ≡ Some look
+        → ((result ≡ Status.OutOfMemory) × (disk.new ≡ disk.old)) ⊎ ServedLook (D.state disk.old) (D.state disk.new) look result }
 {
     let asked = match read_words(alloc, words) {
         Ok(asked) => asked,
@@ -136,6 +146,11 @@ fn run_in_memory<R: Input + Print>(
     sectors: u64,
 ) -> Result<Status, OpenFault>
     ensures usage { IfOk result (IsUsage (map string_bytes words.now)) }
+    ensures unmade { IfErr result (λ fault. fault ≡ OpenFault.Memory) }
+    ensures ran { IfOk result (λ status. (word : Word) → running_words (map string_bytes words.now) ≡ Some word
+        → (status ≡ Status.OutOfMemory) ⊎ RanInMemory sectors word status) }
+    ensures looked { IfOk result (λ status. (look : Look) → looking_words (map string_bytes words.now) ≡ Some look
+        → (status ≡ Status.OutOfMemory) ⊎ LookedInMemory sectors look status) }
 {
     let Ok(mut disk) = MemDisk::new(alloc, sectors) else {
         return Err(OpenFault::Memory);
@@ -184,6 +199,11 @@ fn run_on<R: Input + Print + Files<File = File>>(
     words: &[String],
 ) -> Result<Status, OpenFault>
     ensures usage { IfOk result (IsUsage (map string_bytes words.now)) }
+    ensures unmade { (sectors : ℕ) → image.entry ≡ Image.Memory sectors → IfErr result (λ fault. fault ≡ OpenFault.Memory) }
+    ensures ran { (sectors : ℕ) → image.entry ≡ Image.Memory sectors → IfOk result (λ status. (word : Word)
+        → running_words (map string_bytes words.now) ≡ Some word → (status ≡ Status.OutOfMemory) ⊎ RanInMemory sectors word status) }
+    ensures looked { (sectors : ℕ) → image.entry ≡ Image.Memory sectors → IfOk result (λ status. (look : Look)
+        → looking_words (map string_bytes words.now) ≡ Some look → (status ≡ Status.OutOfMemory) ⊎ LookedInMemory sectors look status) }
 {
     match image {
         Image::Memory(sectors) => run_in_memory(rt, alloc, words, sectors),
