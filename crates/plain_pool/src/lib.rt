@@ -14,4 +14,4 @@ mod prune;
 mod stats;
 
 pub use pointer::{Mark, PlainPointer, copied_block};
-pub use pool::{LANES, PlainPool, with_key};
+pub use pool::{LANES, PlainPool};

@@ -1,7 +1,7 @@
 use Rattle.std.proofs.Common.{◌≡◌, true, false, sym, slice_get, unwrap_or, position, length}
 use Rattle.std.specs.List.{position_or_len}
-use Rattle.plain_pool.proofs.Insertions.{from, stands_at, with_key-at, with_key-same}
-use Rattle.plain_pool.proofs.pool.with_key.Goals as goal
+use Rattle.home_rules.proofs.KeyInsertions.{from, stands_at, with_key-at, with_key-same}
+use Rattle.home_rules.proofs.keys.with_key.Goals as goal
 use Rattle.pool_model.proofs.Loops.{unwrap_or-position}
 
 pub returns-then-has_at : goal.returns-then-has_at
