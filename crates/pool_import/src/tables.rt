@@ -1,8 +1,9 @@
 ghost use Rattle.std.specs.Prelude.{◌≡◌, ◌&&◌, IfOk, filter};
 ghost use Rattle.ddt_entry.specs.Changes.{key_in};
 ghost use Rattle.pool_model.specs.Table.{change_at, is_past};
+ghost use Rattle.pool_model.specs.Logs.{is_missing};
 ghost use Rattle.table_state.specs.SealForms.{checkpoint_in};
-ghost use Rattle.table_state.specs.Flat.{is_missing, table_in};
+ghost use Rattle.table_state.specs.Flat.{table_in};
 
 use crate::flat::FlatImage;
 use ddt_entry::{Change, Key, key_of};

@@ -2,6 +2,7 @@ pub mod OnLiterals
 mod Runs
 mod Turns
 mod Tables
+mod Logged
 mod Facts
 mod Left
 pub mod Laws
@@ -37,5 +38,6 @@ pub mod Synced
 pub mod Waiting
 pub mod Matching
 pub mod Named
+pub mod Replays
 pub mod Keys
 pub mod Loops

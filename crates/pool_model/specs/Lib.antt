@@ -5,6 +5,7 @@ pub mod Command
 pub mod File
 pub mod Group
 pub mod Homes
+pub mod Logs
 pub mod Plain
 pub mod Pool
 pub mod Prune
@@ -18,6 +19,7 @@ pub mod Worked
 pub mod WorkedRuns
 pub mod WorkedTurns
 pub mod WorkedTables
+pub mod WorkedLogs
 pub mod WorkedFacts
 pub mod WorkedLeft
 pub mod Mirrors

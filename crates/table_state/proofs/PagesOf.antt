@@ -14,8 +14,9 @@ use Rattle.page_tree.specs.declared.pointer.PagePtr.{PagePtr}
 use Rattle.page_tree.proofs.ChainPages.{chain_pages}
 use Rattle.uber_ring.specs.declared.seal.Seal.{Seal}
 use Rattle.pool_model.specs.Table.{change_at, is_past}
+use Rattle.pool_model.specs.Logs.{last_changes, is_missing}
 use Rattle.table_state.specs.SealForms.{checkpoint_in, slots_root, unique_root, duplicate_root, active_root, flushing_root}
-use Rattle.table_state.specs.Flat.{Flat, IsRead, Reads, HoldTogether, last_changes, is_missing, table_in}
+use Rattle.table_state.specs.Flat.{Flat, IsRead, Reads, HoldTogether, table_in}
 use Rattle.table_state.specs.Tables.{unique_in, duplicate_in, table_pages}
 use Rattle.pool_model.proofs.Lists.{all_from, length-cond, length-filter-le}
 use Rattle.pool_model.proofs.Sorted.{IsPut, passing_put, length-put}

@@ -16,9 +16,10 @@ use Rattle.disk_model.specs.Images.{Image}
 use Rattle.uber_ring.specs.declared.seal.Seal.{Seal}
 use Rattle.pool_model.specs.Pool.{Pool, Pointer, Pairwise}
 use Rattle.pool_model.specs.Table.{TableState, IsTable, change_at, is_past}
+use Rattle.pool_model.specs.Logs.{last_changes, is_missing}
 use Rattle.table_state.specs.SealForms.{is_formed, has_group, has_size, has_flags, has_modes, has_checkpoint, fewest_sectors, most_sectors, last_group, checkpoint_in}
 use Rattle.table_state.specs.SlotRecords.{is_slot, in_range, slot_at, slot_in, kind_said, kind_at, slot_of as slot_said}
-use Rattle.table_state.specs.Flat.{Flat, IsRead, table_in, pointer_of, last_changes, is_missing, stands_before}
+use Rattle.table_state.specs.Flat.{Flat, IsRead, table_in, pointer_of, stands_before}
 use Rattle.table_state.specs.Pools.{Held, IsHeld}
 use Rattle.table_state.specs.Sound.{IsSound, HasKeyLengths, HasLength}
 use Rattle.table_state.specs.Tables.{IsTableWithin}

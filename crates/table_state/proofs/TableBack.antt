@@ -13,8 +13,9 @@ use Rattle.ddt_entry.specs.declared.entry.Change.{Change}
 use Rattle.ddt_entry.proofs.KeyLaws.{key_eq-symm}
 use Rattle.uber_ring.specs.declared.seal.Seal.{Seal}
 use Rattle.pool_model.specs.Table.{TableState, entry_at, change_at, set_entry, AreRising, is_past, IsTable, AreChangesRising}
+use Rattle.pool_model.specs.Logs.{last_changes, is_missing}
 use Rattle.table_state.specs.SealForms.{checkpoint_in}
-use Rattle.table_state.specs.Flat.{Flat, HoldTogether, IsWithin, IsChangeWithin, last_changes, is_missing, table_in}
+use Rattle.table_state.specs.Flat.{Flat, HoldTogether, IsWithin, IsChangeWithin, table_in}
 use Rattle.table_state.specs.Tables.{IsTableWithin, unique_in, duplicate_in}
 use Rattle.pool_model.proofs.Lists.{all_from, all_from_both, all_each, all_filter, all_tested, filter_whole, pairs_filter, pairs_from, classes_apart, none_found}
 use Rattle.pool_model.proofs.Sorted.{rising_fold, all_fold, fold_back, split_back}

@@ -1,8 +1,7 @@
 -- What a flat image stands for: a pool of pointers with the state of its table. This is version 0 of the image, in which five
 -- chains keep the slots, the two classes of the stored table, and the two logs.
-use Rattle.std.specs.Prelude.{◌≡◌, ℕ, ◌<◌, ◌≤◌, ◌^◌, ⊤, Bool, true, false, ◌&&◌, ◌||◌, ◌==◌, nat_lt, List, [], length, take, map, fold, filter, sum_by, Option, Some, None, Ok, if◌then◌else◌}
+use Rattle.std.specs.Prelude.{◌≡◌, ℕ, ◌<◌, ◌≤◌, ◌^◌, ⊤, Bool, true, false, ◌&&◌, ◌||◌, ◌==◌, nat_lt, List, [], length, take, map, fold, sum_by, Option, Some, None, Ok, if◌then◌else◌}
 use Rattle.std.specs.List.{AllByRecursion, list_any}
-use Rattle.ddt_entry.specs.Changes.{key_in}
 use Rattle.ddt_entry.specs.Records.{change_in}
 use Rattle.ddt_entry.specs.declared.entry.Home.{Home}
 use Rattle.ddt_entry.specs.declared.entry.Entry.{Entry}
@@ -16,7 +15,8 @@ use Rattle.page_tree.specs.declared.pointer.PagePtr.{PagePtr}
 use Rattle.uber_ring.specs.Ring.{newest}
 use Rattle.uber_ring.specs.declared.seal.Seal.{Seal}
 use Rattle.pool_model.specs.Pool.{Pool, Pointer, Mark, plain, tracked, loose, Pairwise, IsWellFormed}
-use Rattle.pool_model.specs.Table.{TableState, entry_at, set_entry, set_change, change_at, found, AreRising, is_past, counted_homes, Matches, waiting_in}
+use Rattle.pool_model.specs.Table.{TableState, entry_at, set_entry, found, AreRising, counted_homes, Matches, waiting_in}
+use Rattle.pool_model.specs.Logs.{last_changes, left_in}
 use Rattle.table_state.specs.SealForms.{is_formed, modes_in, quota_in, checkpoint_in, slots_root, unique_root, duplicate_root, active_root, flushing_root}
 use Rattle.table_state.specs.SlotRecords.{slot_in}
 use Rattle.table_state.specs.declared.slot_record.SlotRecord.{SlotRecord}
@@ -93,14 +93,6 @@ pub record HoldTogether (seal : Seal) (flat : Flat) : Type 0 where
   pub active_changes : seal.active_changes ≡ length flat.active
   pub flushing_changes : seal.flushing_changes ≡ length flat.flushing
 
--- the last change of each key, sorted by key
-abbrev pub last_changes : List Change → List Change
-last_changes log = fold (λ sorted change. set_change change sorted) [] log
-
-abbrev pub is_missing : Option Change → Bool
-is_missing None = true
-is_missing (Some change) = false
-
 -- the table: both classes as one, and of each log the last change of a key; of the flushing log only what is not flushed yet and the
 -- active log doesn't name
 abbrev pub table_in : Seal → Flat → TableState
@@ -109,8 +101,7 @@ table_in seal flat =
     record {
       zap = fold (λ entries entry. set_entry entry entries) flat.unique flat.duplicate;
       active = active;
-      flush = filter (λ change. is_past (checkpoint_in seal) (key_in change) && is_missing (change_at (key_in change) active))
-          (last_changes flat.flushing);
+      flush = left_in (checkpoint_in seal) active flat.flushing;
       age = seal.age;
       checkpoint = checkpoint_in seal;
     }
