@@ -9,13 +9,15 @@ use Rattle.ddt_entry.specs.declared.entry.Change.{Change}
 use Rattle.ddt_entry.specs.declared.entry.Change.TheVariants as changes
 use Rattle.pool_model.specs.Pool.{Pool, Pointer, Pairwise, IsApart, run_length, lane_count, with_key}
 use Rattle.pool_model.specs.Table.{TableState, found, sync_table, waiting_in}
+use Rattle.pool_model.specs.Logs.{Logs, logs_after}
 use Rattle.pool_model.specs.Plain.{Task, LaneTold, Told}
 use Rattle.pool_model.specs.Command.{Opening, Turn, Course, known_home, after, is_fault}
 
--- a pool with its table, the bytes at each place, the sectors that it has, and those of its image's pages
+-- a pool with its table and the logs as they are kept, the bytes at each place, the sectors that it has, and those of its image's pages
 pub record Standing : Type 0 where
   pub pool : Pool
   pub table : TableState
+  pub logs : Logs
   pub blocks : ℕ → List ℕ
   pub sectors : ℕ
   pub pages : List ℕ
@@ -103,6 +105,7 @@ after_lanes opening s course pages =
     record {
       pool = record course.pool { group = opening.number };
       table = sync_table (changes_of opening course) s.table;
+      logs = logs_after (changes_of opening course) s.table s.logs;
       blocks = blocks_after s;
       sectors = s.sectors;
       pages = pages;

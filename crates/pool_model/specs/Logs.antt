@@ -4,7 +4,7 @@ use Rattle.std.specs.Prelude.{◌≡◌, ℕ, Bool, true, false, ◌&&◌, ◌==
 use Rattle.ddt_entry.specs.Changes.{key_in}
 use Rattle.ddt_entry.specs.declared.key.Key.{Key}
 use Rattle.ddt_entry.specs.declared.entry.Change.{Change}
-use Rattle.pool_model.specs.Table.{TableState, set_change, change_at, is_past, logged, flushed, flush_limit, aged, is_due}
+use Rattle.pool_model.specs.Table.{TableState, set_change, change_at, is_past, logged, flushed, flush_limit, aged, is_due, sync_table}
 
 -- the last change of each key, sorted by key
 abbrev pub last_changes : List Change → List Change
@@ -66,6 +66,14 @@ settled table logs = exchanged (is_due (aged table)) (emptied table.flush logs)
 -- what a sync of a table with these changes makes of its logs
 abbrev pub logs_after : List Change → TableState → Logs → Logs
 logs_after changes table logs = settled (flushed (flush_limit table) (logged changes table)) (appended changes logs)
+
+-- a table with its logs, and both after a sync with these changes
+pub record LoggedTable : Type 0 where
+  pub table : TableState
+  pub logs : Logs
+
+abbrev pub sync_logged : List Change → LoggedTable → LoggedTable
+sync_logged changes kept = record { table = sync_table changes kept.table; logs = logs_after changes kept.table kept.logs }
 
 -- the logs are replayed to the table's lists
 pub record Replays (table : TableState) (logs : Logs) : Type 0 where

@@ -7,6 +7,7 @@ use Rattle.pool_model.specs.declared.notes.Outcome.{Outcome}
 use Rattle.pool_model.specs.declared.notes.Outcome.TheVariants.{Sealed, NoSpace, Cut}
 use Rattle.pool_model.specs.Pool.{Pool, empty_pool}
 use Rattle.pool_model.specs.Table.{empty_table, sync_table, flush_limit}
+use Rattle.pool_model.specs.Logs.{empty_logs, logs_after}
 use Rattle.pool_model.specs.Plain.{Task, GroupItem, lanes, prune, quota, set_mode, Part, create, of_group, stat, «import», Told}
 use Rattle.pool_model.specs.Command.{Course}
 use Rattle.pool_model.specs.Prune.{after_prune, prune_changes, pruned}
@@ -15,7 +16,8 @@ use Rattle.pool_model.specs.Group.{Standing, Rules, opening_of, course_of, fresh
 
 -- the empty pool of a new image on so many sectors
 abbrev pub first_standing : (sectors : ℕ) → Standing
-first_standing sectors = record { pool = empty_pool; table = empty_table; blocks = λ place. []; sectors = sectors; pages = [] }
+first_standing sectors =
+    record { pool = empty_pool; table = empty_table; logs = empty_logs; blocks = λ place. []; sectors = sectors; pages = [] }
 
 -- ---- One group
 
@@ -33,7 +35,12 @@ noted_course rules s moment tasks told =
 -- a settings group is a group without changes
 abbrev pub after_settings : Standing → Pool → (pages : List ℕ) → Standing
 after_settings s pool pages =
-    record s { pool = record pool { group = s.pool.group + 1 }; table = sync_table [] s.table; pages = pages }
+    record s {
+      pool = record pool { group = s.pool.group + 1 };
+      table = sync_table [] s.table;
+      logs = logs_after [] s.table s.logs;
+      pages = pages;
+    }
 
 -- what stands after a group that was sealed, whose image has these pages
 abbrev pub sealed_standing : Rules → Standing → GroupItem → Told → (pages : List ℕ) → Standing
@@ -43,6 +50,7 @@ sealed_standing rules s (prune moment rule) told pages =
     record s {
       pool = record (after_prune s.pool rule moment) { group = s.pool.group + 1 };
       table = sync_table (prune_changes s.pool rule moment) s.table;
+      logs = logs_after (prune_changes s.pool rule moment) s.table s.logs;
       pages = pages;
     }
 sealed_standing rules s (quota limit) told pages = after_settings s (record s.pool { quota = limit }) pages
@@ -95,7 +103,7 @@ outcome_by_room s item =
 pub record HasFlatRoom (before : Standing) (item : GroupItem) (outcome : Outcome) (given : List (ℕ × ℕ)) (after : Standing) : Type 0 where
   pub outcome_is : outcome ≡ outcome_by_room before item
   pub fresh : AreFresh (IsFree before) given
-  pub pages : outcome ≡ Sealed → length after.pages ≡ image_pages after.pool after.table
+  pub pages : outcome ≡ Sealed → length after.pages ≡ image_pages after.pool after.table after.logs
 
 -- the note's replies and fresh places are those of the run
 pub record AnswersAsRun (rules : Rules) (s : Standing) (moment : ℕ) (tasks : List Task) (told : Told) : Type 0 where

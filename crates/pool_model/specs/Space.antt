@@ -5,6 +5,7 @@ use Rattle.pool_model.specs.declared.notes.Outcome.{Outcome}
 use Rattle.pool_model.specs.declared.notes.Outcome.TheVariants.{NoSpace}
 use Rattle.pool_model.specs.Pool.{Pool, run_length}
 use Rattle.pool_model.specs.Table.{TableState, waiting_in}
+use Rattle.pool_model.specs.Logs.{Logs}
 use Rattle.pool_model.specs.Plain.{Task, Act, write, read, free}
 
 abbrev pub is_write : Act → Bool
@@ -62,11 +63,11 @@ space_lacking left needed = if nat_lt left needed then Some (NoSpace needed left
 abbrev pub chain_pages : (records : ℕ) → ℕ
 chain_pages records = (records + 55) / 56
 
--- how many pages the image of a pool takes: for its slots, for both classes of the stored table, and for both logs
-abbrev pub image_pages : Pool → TableState → ℕ
-image_pages pool table =
+-- how many pages the image of a pool takes: for its slots, for both classes of the stored table, and for all changes of both logs
+abbrev pub image_pages : Pool → TableState → Logs → ℕ
+image_pages pool table logs =
     chain_pages (length pool.pointers)
     + chain_pages (count_by (λ entry. entry.home.count == 1) table.zap)
     + chain_pages (count_by (λ entry. nat_lt 1 entry.home.count) table.zap)
-    + chain_pages (length table.active)
-    + chain_pages (length table.flush)
+    + chain_pages (length logs.active)
+    + chain_pages (length logs.flushing)

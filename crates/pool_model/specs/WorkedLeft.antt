@@ -174,6 +174,7 @@ CutBlock = Leaves
     (record {
       pool = record empty_pool { modes = Verify ∷ replicate 15 On };
       table = record empty_table { zap = []; active = changes.Entry (entry (own_key a) 40 1 1000 0) ∷ [] };
+      logs = record { active = changes.Entry (entry (own_key a) 40 1 1000 0) ∷ []; flushing = [] };
       blocks = λ place. if place == 40 then 97 ∷ 0 ∷ 0 ∷ [] else [];
       sectors = 2048;
       pages = [];
@@ -197,6 +198,7 @@ abbrev pub two_named : Standing
 two_named = record {
   pool = record empty_pool { pointers = pointer 1 a 32 1 plain ∷ [] };
   table = record empty_table { active = changes.Entry (entry (own_key b) 33 1 1000 0) ∷ [] };
+  logs = record { active = changes.Entry (entry (own_key b) 33 1 1000 0) ∷ []; flushing = [] };
   blocks = λ place. b;
   sectors = 2048;
   pages = 40 ∷ [];

@@ -1,14 +1,9 @@
 -- Worked examples of the logs as they are kept: what a sync makes of them beside its table.
 use Rattle.std.specs.Prelude.{◌≡◌, ℕ, List, [], ◌∷◌, ◌++◌, fold, replicate, Some, None}
 use Rattle.ddt_entry.specs.declared.entry.Change.{Change}
-use Rattle.pool_model.specs.Table.{TableState, empty_table, sync_table}
-use Rattle.pool_model.specs.Logs.{Logs, SortedLogs, empty_logs, replayed, logs_after}
+use Rattle.pool_model.specs.Table.{empty_table}
+use Rattle.pool_model.specs.Logs.{LoggedTable, empty_logs, replayed, sync_logged}
 use Rattle.pool_model.specs.WorkedTables.{key, entry, to, gone, entries_from, changes_from}
-
--- a table with its logs
-pub record LoggedTable : Type 0 where
-  pub table : TableState
-  pub logs : Logs
 
 abbrev pub at_first : LoggedTable
 at_first = record { table = empty_table; logs = empty_logs }
@@ -16,8 +11,7 @@ at_first = record { table = empty_table; logs = empty_logs }
 -- what groups with these changes make of them
 abbrev pub all_synced : List (List Change) → LoggedTable → LoggedTable
 all_synced groups logged =
-    fold (λ before changes. record { table = sync_table changes before.table; logs = logs_after changes before.table before.logs })
-    logged groups
+    fold (λ before changes. sync_logged changes before) logged groups
 
 -- a key that is changed twice stands twice in its log, and once in the table's list
 pub record ChangedTwice : Type 0 where

@@ -89,6 +89,13 @@ spoilt = record {
       home = record { place = 40; birth = 2; since = 1000; count = 0 };
     }) ∷ [];
   };
+  logs = record {
+    active = changes.Entry (record {
+      key = sha256_key a;
+      home = record { place = 40; birth = 2; since = 1000; count = 0 };
+    }) ∷ [];
+    flushing = [];
+  };
   blocks = λ place. b;
   sectors = 2048;
   pages = [];
