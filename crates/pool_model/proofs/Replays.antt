@@ -1,13 +1,13 @@
 -- Logs that are replayed to a table's lists still are after a sync: a change more is appended and set, what leaves the flushing list is
 -- behind its checkpoint, and the logs swap as the lists do.
-use Rattle.std.proofs.Common.{◌≡◌, ℕ, zero, suc, ◌+◌, ◌<◌, Bool, true, false, cond, not, ◌&&◌, List, [], ◌∷◌, ◌++◌, length, filter, fold, take, drop, take-append-drop, append-nil, Option, Some, None, option_map, refl, sym, ap, subst, ◌∙◌, arith}
+use Rattle.std.proofs.Common.{◌≡◌, ℕ, zero, suc, ◌+◌, ◌<◌, Bool, true, false, cond, not, ◌&&◌, List, [], ◌∷◌, ◌++◌, length, filter, fold, take, drop, take-append-drop, append-nil, Option, Some, None, option_map, refl, sym, ap, subst, ◌∙◌, arith, ◌≤◌}
 use Rattle.std.specs.Prelude.{◌==◌, ◌/◌, if◌then◌else◌}
 use Rattle.std.specs.List.{AllByRecursion, last_or}
 use Rattle.std.specs.Ordering.{is_lt}
 use Rattle.std.proofs.lemmas.Bool.{and_parts}
 use Rattle.std.proofs.lemmas.Bool.Decides.{nat_tests}
 use Rattle.std.proofs.lemmas.Cmp.{tied_itself}
-use Rattle.std.proofs.lemmas.List.{append_assoc}
+use Rattle.std.proofs.lemmas.List.{append_assoc, length-append}
 use Rattle.std.proofs.lemmas.List.Elements.{filter_agree}
 use Rattle.std.proofs.lemmas.List.Sums.{fold-append}
 use Rattle.ddt_entry.specs.Keys.{key_cmp, key_eq}
@@ -17,7 +17,7 @@ use Rattle.ddt_entry.specs.declared.entry.Change.{Change}
 use Rattle.ddt_entry.proofs.KeyLaws.{key_cmp_total, key_eq-symm}
 use Rattle.pool_model.specs.Table.{TableState, change_at, set_change, drop_change, is_past, log_change, logged, checkpoint_after, flushed, flush_limit, is_due, aged, swapped, sync_table, AreChangesRising}
 use Rattle.pool_model.specs.Logs.{last_changes, is_missing, is_left, left_in, reached, Logs, replayed, appended, emptied, exchanged, logs_after, Replays}
-use Rattle.pool_model.proofs.Lists.{all_each, all_tested, filter_whole, pairs_filter}
+use Rattle.pool_model.proofs.Lists.{all_both, all_each, all_tested, filter_whole, pairs_filter}
 use Rattle.pool_model.proofs.Sorted.{less_of, rising_fold}
 use Rattle.pool_model.proofs.TablePuts.{changes_put}
 use Rattle.pool_model.proofs.Finding.{change_at-set}
@@ -224,3 +224,50 @@ sync_replays changes table logs is =
   where
     some : (n : ℕ) → 0 < 64 + n
     some n = omega arith
+
+-- ---- What a sync leaves of the logs
+
+-- a sync adds at most its changes to the logs
+pub logs_length : (changes : List Change) (table : TableState) (logs : Logs)
+    → length (logs_after changes table logs).active + length (logs_after changes table logs).flushing
+    ≤ length logs.active + length logs.flushing + length changes
+logs_length changes table logs =
+    omega (
+      arith,
+      by_due (is_due (aged (flushed (flush_limit table) (logged changes table))))
+          (emptied (flushed (flush_limit table) (logged changes table)).flush (appended changes logs)),
+      by_rest (length (flushed (flush_limit table) (logged changes table)).flush == 0) (appended changes logs),
+      length-append logs.active changes,
+    )
+  where
+    by_due : (due : Bool) (l : Logs) → length (exchanged due l).active + length (exchanged due l).flushing ≤ length l.active + length l.flushing
+    by_due true l = omega arith
+    by_due false l = omega arith
+
+    by_rest : (none : Bool) (l : Logs) → length (if none then record { active = l.active; flushing = [] } else l).active
+        + length (if none then record { active = l.active; flushing = [] } else l).flushing ≤ length l.active + length l.flushing
+    by_rest true l = omega arith
+    by_rest false l = omega arith
+
+-- a property of each change of the logs
+pub record IsEachLogged (Q : Change → Type 0) (logs : Logs) : Type 0 where
+  pub active : AllByRecursion Q logs.active
+  pub flushing : AllByRecursion Q logs.flushing
+
+-- a sync keeps it
+pub logs_each : (Q : Change → Type 0) (changes : List Change) (table : TableState) (logs : Logs) → IsEachLogged Q logs
+    → AllByRecursion Q changes → IsEachLogged Q (logs_after changes table logs)
+logs_each Q changes table logs each all =
+    by_due (is_due (aged (flushed (flush_limit table) (logged changes table))))
+    (emptied (flushed (flush_limit table) (logged changes table)).flush (appended changes logs))
+    (by_rest (length (flushed (flush_limit table) (logged changes table)).flush == 0) (appended changes logs)
+    (record { active = all_both Q logs.active changes each.active all; flushing = each.flushing }))
+  where
+    by_due : (due : Bool) (l : Logs) → IsEachLogged Q l → IsEachLogged Q (exchanged due l)
+    by_due true l here = record { active = tt; flushing = here.active }
+    by_due false l here = here
+
+    by_rest : (none : Bool) (l : Logs) → IsEachLogged Q l
+        → IsEachLogged Q (if none then record { active = l.active; flushing = [] } else l)
+    by_rest true l here = record { active = here.active; flushing = tt }
+    by_rest false l here = here

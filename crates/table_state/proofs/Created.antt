@@ -123,6 +123,7 @@ new_is_held tag sectors image enough few there seals = record {
   stands = stands_for_empty tag sectors image enough few there seals;
   slots_are = refl;
   table_is = refl;
+  logs_are = refl;
   pages_are = refl;
   used_are = used_by_none sectors;
   modes_are = refl;
@@ -144,6 +145,8 @@ new_is_sound tag sectors enough few = record {
   slots_rising = tt;
   within = record { zap = tt; flush = tt; active = tt };
   lengths = record { zap = tt; flush = tt; active = tt };
+  logs_within = record { active = tt; flushing = tt };
+  log_lengths = record { active = tt; flushing = tt };
   sorted = empty_sorted;
   counts = λ key home found. absurd (cc found);
 }
@@ -153,6 +156,7 @@ pub new_stands_over : (tag sectors : ℕ) (image : Image) → fewest_sectors ≤
     → newest image_version image ≡ Some (new_seal tag sectors) → StandsOver image (new_held tag sectors) (first_standing sectors)
 new_stands_over tag sectors image enough few there seals = record {
   is_held = new_is_held tag sectors image enough few there seals;
+  logs = refl;
   sectors = refl;
   pages = refl;
   waiting = λ key home found none. absurd (cc found);

@@ -10,7 +10,7 @@ use Rattle.uber_ring.specs.declared.seal.Seal.{Seal}
 use Rattle.pool_model.specs.Pool.{Pool, Pointer}
 use Rattle.pool_model.specs.Table.{TableState, found}
 use Rattle.pool_model.specs.Group.{Standing}
-use Rattle.table_state.specs.Flat.{Flat, SameIn, image_version, table_in, pointer_of}
+use Rattle.table_state.specs.Flat.{Flat, SameIn, image_version, table_in, pointer_of, logs_in}
 use Rattle.table_state.specs.Pools.{Held, IsHeld}
 use Rattle.table_state.specs.Holding.{Holds}
 use Rattle.table_state.specs.Over.{StandsOver}
@@ -25,6 +25,7 @@ pub holds_over : (image : Image) (held : Held) (s : Standing) → StandsOver ima
 holds_over image held s over = record {
   state = over.is_held.stands;
   sectors = sym over.is_held.sectors_are ∙ over.sectors;
+  logs = sym over.is_held.logs_are ∙ over.logs;
   pages = sym over.is_held.pages_are ∙ over.pages;
   waiting = over.waiting;
 }
@@ -32,12 +33,13 @@ holds_over image held s over = record {
 -- the standing that a pool in memory is over an image, with the blocks that the image has
 abbrev pub standing_over : Image → Held → Pool → TableState → Standing
 standing_over image held pool table =
-    record { pool = pool; table = table; blocks = sector_at image; sectors = held.sectors; pages = held.pages }
+    record { pool = pool; table = table; logs = held.logs; blocks = sector_at image; sectors = held.sectors; pages = held.pages }
 
 -- a pool in memory that is held stands so
 pub stands_as_held : (image : Image) (held : Held) (pool : Pool) (table : TableState) → IsHeld image held pool table
     → StandsOver image held (standing_over image held pool table)
-stands_as_held image held pool table is = record { is_held = is; sectors = refl; pages = refl; waiting = λ key home there none. refl }
+stands_as_held image held pool table is =
+    record { is_held = is; logs = refl; sectors = refl; pages = refl; waiting = λ key home there none. refl }
 
 -- ---- One thing alone
 
@@ -51,6 +53,8 @@ over_held image held pool table s is holds =
       sectors =
           is.sectors_are ∙ ap (λ (seal : Seal). seal.sectors) (one_seal held.tag image pool s.pool table s.table is.stands holds.state) ∙
           holds.sectors;
+      logs =
+          is.logs_are ∙ ap logs_in (one_keeping held.tag image pool s.pool table s.table is.stands holds.state) ∙ holds.logs;
       pages =
           is.pages_are ∙ ap (λ (flat : Flat). flat.named) (one_keeping held.tag image pool s.pool table s.table is.stands holds.state) ∙
           holds.pages;
@@ -89,6 +93,7 @@ holds_kept tag image c s holds count seals pages pointers waits =
       sectors =
           ap (λ (seal : Seal). seal.sectors) (seal_kept image c count tag s.pool s.table holds.state seals in_chains in_slots) ∙
           holds.sectors;
+      logs = ap logs_in (flat_kept image c count tag s.pool s.table holds.state seals in_chains in_slots) ∙ holds.logs;
       pages =
           ap (λ (flat : Flat). flat.named) (flat_kept image c count tag s.pool s.table holds.state seals in_chains in_slots)
           ∙ holds.pages;

@@ -16,7 +16,7 @@ use Rattle.uber_ring.specs.declared.seal.Seal.{Seal}
 use Rattle.pool_model.specs.Table.{change_at, is_past}
 use Rattle.pool_model.specs.Logs.{last_changes, is_missing}
 use Rattle.table_state.specs.SealForms.{checkpoint_in, slots_root, unique_root, duplicate_root, active_root, flushing_root}
-use Rattle.table_state.specs.Flat.{Flat, IsRead, Reads, HoldTogether, table_in}
+use Rattle.table_state.specs.Flat.{Flat, IsRead, Reads, HoldTogether, table_in, logs_in}
 use Rattle.table_state.specs.Tables.{unique_in, duplicate_in, table_pages}
 use Rattle.pool_model.proofs.Lists.{all_from, length-cond, length-filter-le}
 use Rattle.pool_model.proofs.Sorted.{IsPut, passing_put, length-put}
@@ -138,31 +138,19 @@ module _ (seal : Seal) (flat : Flat) (whole : HoldTogether seal flat) where
             (λ entry. not_more entry.home.count) flat.unique whole.counted_once),
       )
 
-  fewer_active : length (table_in seal flat).active ≤ length flat.active
-  fewer_active = omega (arith, length-fold changes_put flat.active [])
-
-  fewer_flushing : length (table_in seal flat).flush ≤ length flat.flushing
-  fewer_flushing =
-      omega (
-        arith,
-        length-filter-le (λ change. is_past (checkpoint_in seal) (key_in change) && is_missing
-            (change_at (key_in change) (last_changes flat.active))) (last_changes flat.flushing),
-        length-fold changes_put flat.flushing [],
-      )
-
-  -- the four lists of the table take no more pages than those that were read
-  pub table_in_pages : table_pages (table_in seal flat) ≤ pages_for (length flat.unique) + pages_for (length flat.duplicate) + pages_for
+  -- the two classes of the table and its logs take no more pages than those that were read
+  pub table_in_pages : table_pages (record { table = table_in seal flat; logs = logs_in flat }) ≤ pages_for (length flat.unique) + pages_for (length flat.duplicate) + pages_for
       (length flat.active) + pages_for (length flat.flushing)
   table_in_pages =
-      four_sums _ _ _ _ _ _ _ _ (fewer_pages _ (length flat.unique) fewer_unique) (fewer_pages _ (length flat.duplicate) fewer_duplicate)
-      (fewer_pages _ (length flat.active) fewer_active) (fewer_pages _ (length flat.flushing) fewer_flushing)
+      four_sums _ _ (pages_for (length flat.active)) (pages_for (length flat.flushing)) _ _
+      (fewer_pages _ (length flat.unique) fewer_unique) (fewer_pages _ (length flat.duplicate) fewer_duplicate)
     where
-      four_sums : (u d a f u' d' a' f' : ℕ) → u ≤ u' → d ≤ d' → a ≤ a' → f ≤ f' → u + d + a + f ≤ u' + d' + a' + f'
-      four_sums u d a f u' d' a' f' eu ed ea ef = omega arith
+      four_sums : (u d a f u' d' : ℕ) → u ≤ u' → d ≤ d' → u + d + a + f ≤ u' + d' + a + f
+      four_sums u d a f u' d' eu ed = omega arith
 
   -- the slots and the table take no more pages than the image names
   pub pages_within_named : (image : Image) → IsRead image seal flat
-      → pages_for (length flat.slots) + table_pages (table_in seal flat) ≤ length flat.named
+      → pages_for (length flat.slots) + table_pages (record { table = table_in seal flat; logs = logs_in flat }) ≤ length flat.named
   pages_within_named image read = in_all _ _ _ _ table_in_pages (pages_named image seal flat read)
     where
       in_all : (slots table lists named : ℕ) → table ≤ lists → named ≡ slots + lists → slots + table ≤ named

@@ -23,7 +23,8 @@ use Rattle.table_state.specs.declared.slot_record.SlotRecord.{SlotRecord}
 use Rattle.table_state.proofs.PagesOf.{pages_within_named}
 use Rattle.table_state.proofs.SlotsAfter.{length_after}
 use Rattle.table_state.proofs.TableRoom.{pages_after_plain}
-use Rattle.table_state.specs.Closing.{PlainClosed, block_places, pages_of, pool_with, records_after, table_after}
+use Rattle.table_state.specs.Closing.{PlainClosed, block_places, pages_of, pool_with, records_after, table_after, kept_of, kept_after}
+use Rattle.pool_model.specs.Logs.{Logs, LoggedTable, logs_after}
 
 -- ---- The pages of the five chains
 
@@ -51,50 +52,59 @@ same_pages : (s s' u u' d d' a a' f f' : ℕ) → s ≡ s' → u ≡ u' → d �
     ≡ pages_for s' + (pages_for u' + pages_for d' + pages_for a' + pages_for f')
 same_pages s s' u u' d d' a a' f f' es eu ed ea ef = cc
 
--- the records of slots and a table take as many pages as these
-pub pages_of_records : (slots : List SlotRecord) (table : TableState)
-    → pages_of (records_in slots table) ≡ pages_for (length slots) + table_pages table
-pages_of_records slots table =
-    five_lists (map slot_bytes slots) (map entry_bytes (unique_in table.zap)) (map entry_bytes (duplicate_in table.zap))
-    (map record_bytes table.active) (map record_bytes table.flush)
+-- the records of slots, a table and its logs take as many pages as these
+pub pages_of_records : (slots : List SlotRecord) (kept : LoggedTable)
+    → pages_of (records_in slots kept) ≡ pages_for (length slots) + table_pages kept
+pages_of_records slots kept =
+    five_lists (map slot_bytes slots) (map entry_bytes (unique_in kept.table.zap)) (map entry_bytes (duplicate_in kept.table.zap))
+    (map record_bytes kept.logs.active) (map record_bytes kept.logs.flushing)
     ∙ same_pages _ _ _ _ _ _ _ _ _ _ (length-map slots slot_bytes)
-    (length-map (unique_in table.zap) entry_bytes) (length-map (duplicate_in table.zap) entry_bytes)
-    (length-map table.active record_bytes) (length-map table.flush record_bytes)
+    (length-map (unique_in kept.table.zap) entry_bytes) (length-map (duplicate_in kept.table.zap) entry_bytes)
+    (length-map kept.logs.active record_bytes) (length-map kept.logs.flushing record_bytes)
 
--- the pages of a pool's image are those of its slots and of its table
-pub image_pages_are : (pool : Pool) (table : TableState) → image_pages pool table ≡ pages_for (length pool.pointers) + table_pages table
-image_pages_are pool table =
+-- the pages of a pool's image are those of its slots, of its table and of its logs
+pub image_pages_are : (pool : Pool) (kept : LoggedTable)
+    → image_pages pool kept.table kept.logs ≡ pages_for (length pool.pointers) + table_pages kept
+image_pages_are pool kept =
     put (pages_for (length pool.pointers)) _ _ _ _ _ _
-    (ap chain_pages (sym (length-filter (λ entry. entry.home.count == 1) table.zap)))
-    (ap chain_pages (sym (length-filter (λ entry. nat_lt 1 entry.home.count) table.zap)))
+    (ap chain_pages (sym (length-filter (λ entry. entry.home.count == 1) kept.table.zap)))
+    (ap chain_pages (sym (length-filter (λ entry. nat_lt 1 entry.home.count) kept.table.zap)))
   where
     put : (s u d a f u' d' : ℕ) → u ≡ u' → d ≡ d' → s + u + d + a + f ≡ s + (u' + d' + a + f)
     put s u d a f u' d' same_u same_d = omega (arith, same_u, same_d)
 
 -- so a group's chains take the pages that the image of its pool takes
 pub sealed_pages : (image : Image) (held : Held) (closed : PlainClosed)
-    → pages_of (records_after held closed) ≡ image_pages (pool_with image held closed) (table_after held closed)
+    → pages_of (records_after held closed)
+    ≡ image_pages (pool_with image held closed) (table_after held closed) (logs_after closed.log held.table held.logs)
 sealed_pages image held closed =
-    pages_of_records (slots_after closed.slots held.slots) (table_after held closed)
-    ∙ ap (λ n. pages_for n + table_pages (table_after held closed))
+    pages_of_records (slots_after closed.slots held.slots) (kept_after held closed)
+    ∙ ap (λ n. pages_for n + table_pages (kept_after held closed))
     (sym (length-map (slots_after closed.slots held.slots)
     (pointer_of (with_blocks closed.contents image) (table_after held closed))))
-    ∙ sym (image_pages_are (pool_with image held closed) (table_after held closed))
+    ∙ sym (image_pages_are (pool_with image held closed) (kept_after held closed))
 
 -- ---- What is held
 
-same_held : (slots slots' : List SlotRecord) (table table' : TableState) (pages pages' : List ℕ)
-    → slots ≡ slots' → table ≡ table' → pages ≡ pages'
-    → pages_for (length slots') + table_pages table' ≤ length pages' → pages_for (length slots) + table_pages table ≤ length pages
-same_held slots slots' table table' pages pages' es et ep within =
-    omega (arith, ap (λ (s : List SlotRecord). pages_for (length s)) es, ap table_pages et, ap (λ (p : List ℕ). length p) ep, within)
+abbrev kept_with : TableState → Logs → LoggedTable
+kept_with table logs = record { table = table; logs = logs }
 
--- the slots and the table of a pool in memory take no more pages than its image has
+same_held : (slots slots' : List SlotRecord) (kept kept' : LoggedTable) (pages pages' : List ℕ)
+    → slots ≡ slots' → kept ≡ kept' → pages ≡ pages'
+    → pages_for (length slots') + table_pages kept' ≤ length pages' → pages_for (length slots) + table_pages kept ≤ length pages
+same_held slots slots' kept kept' pages pages' es ek ep within =
+    omega (arith, ap (λ (s : List SlotRecord). pages_for (length s)) es, ap table_pages ek, ap (λ (p : List ℕ). length p) ep, within)
+
+same_kept : (table table' : TableState) (logs logs' : Logs) → table ≡ table' → logs ≡ logs'
+    → kept_with table logs ≡ kept_with table' logs'
+same_kept table table' logs logs' et el = cc
+
+-- the slots, the table and the logs of a pool in memory take no more pages than its image has
 held_pages : (image : Image) (held : Held) (pool : Pool) (table : TableState) → IsHeld image held pool table
-    → pages_for (length held.slots) + table_pages held.table ≤ length held.pages
+    → pages_for (length held.slots) + table_pages (kept_of held) ≤ length held.pages
 held_pages image held pool table is =
-    same_held held.slots is.stands.flat.slots held.table _ held.pages is.stands.flat.named is.slots_are
-    (is.table_is ∙ is.stands.table_is) is.pages_are
+    same_held held.slots is.stands.flat.slots (kept_of held) _ held.pages is.stands.flat.named is.slots_are
+    (same_kept _ _ _ _ (is.table_is ∙ is.stands.table_is) is.logs_are) is.pages_are
     (pages_within_named is.stands.seal is.stands.flat is.stands.whole image is.stands.read)
 
 -- ---- The need
@@ -110,8 +120,8 @@ pub need_enough : (image : Image) (held : Held) (pool : Pool) (table : TableStat
     → pages_of (records_after held closed) ≤ count_by not (marked held.used (block_places closed.contents))
 need_enough image held pool table closed commands writes is slots log contents room =
     in_all _ _ _ (length held.pages) (flush_limit held.table) commands writes (length closed.contents) _ _ _
-    (pages_of_records (slots_after closed.slots held.slots) (table_after held closed))
-    (pages_after_plain (length held.slots) (length (slots_after closed.slots held.slots)) commands closed.log held.table
+    (pages_of_records (slots_after closed.slots held.slots) (kept_after held closed))
+    (pages_after_plain (length held.slots) (length (slots_after closed.slots held.slots)) commands closed.log (kept_of held)
     (omega (arith, slots, length_after closed.slots held.slots)) log)
     (held_pages image held pool table is)
     (need_covers (length held.pages) (flush_limit held.table) commands writes)

@@ -14,6 +14,7 @@ use Rattle.pool_model.specs.Table.{TableState}
 use Rattle.table_state.specs.SealForms.{fewest_sectors, most_sectors, last_group, is_flag, has_group, has_size, has_flags, is_formed, mode_in, modes_in, quota_in, checkpoint_in}
 use Rattle.table_state.specs.Spelling.{mode_byte}
 use Rattle.table_state.specs.Sealed.{seal_of, flag_of, quota_number, checkpoint_len, checkpoint_digest}
+use Rattle.pool_model.specs.Logs.{LoggedTable}
 
 -- ---- The settings
 
@@ -55,11 +56,11 @@ flag_is_flag None = refl
 flag_is_flag (Some x) = refl
 
 -- a checkpoint stands beside changes
-checkpoint_beside : (checkpoint : Option Key) (flush : List Change) → (flush ≡ [] → checkpoint ≡ None)
-    → ((flag_of checkpoint == 0) || nat_lt 0 (length flush)) ≡ true
-checkpoint_beside None flush beside = refl
+checkpoint_beside : (checkpoint : Option Key) (flushing : List Change) → (flushing ≡ [] → checkpoint ≡ None)
+    → ((flag_of checkpoint == 0) || nat_lt 0 (length flushing)) ≡ true
+checkpoint_beside None flushing beside = refl
 checkpoint_beside (Some key) [] beside = absurd (cc (beside refl))
-checkpoint_beside (Some key) (change ∷ flush) beside = grind (arith, nat_tests)
+checkpoint_beside (Some key) (change ∷ flushing) beside = grind (arith, nat_tests)
 
 -- ---- The form
 
@@ -67,17 +68,17 @@ at_least : (x y : ℕ) → x ≤ y → nat_le x y ≡ true
 at_least x y le = grind (arith, nat_tests, le)
 
 -- what a group's numbers have to be for a seal
-pub record HasForm (sectors group size : ℕ) (table : TableState) : Type 0 where
+pub record HasForm (sectors group size : ℕ) (kept : LoggedTable) : Type 0 where
   pub enough : fewest_sectors ≤ sectors
   pub few : sectors ≤ most_sectors
   pub there : sectors ≤ size
   pub first : 1 ≤ group
   pub last : group ≤ last_group
-  pub beside : table.flush ≡ [] → table.checkpoint ≡ None
+  pub beside : kept.logs.flushing ≡ [] → kept.table.checkpoint ≡ None
 
-module _ (tag sectors group : ℕ) (modes : List Mode) (quota : Option ℕ) (table : TableState) (roots : List PagePtr) (pages : ℕ) where
+module _ (tag sectors group : ℕ) (modes : List Mode) (quota : Option ℕ) (kept : LoggedTable) (roots : List PagePtr) (pages : ℕ) where
   abbrev seal : Seal
-  seal = seal_of tag sectors group modes quota table roots pages
+  seal = seal_of tag sectors group modes quota kept roots pages
 
   pub seal_modes_back : modes_in seal ≡ modes
   seal_modes_back = modes_back modes
@@ -85,14 +86,14 @@ module _ (tag sectors group : ℕ) (modes : List Mode) (quota : Option ℕ) (tab
   pub seal_quota_back : quota_in seal ≡ quota
   seal_quota_back = quota_back quota
 
-  pub seal_checkpoint_back : checkpoint_in seal ≡ table.checkpoint
-  seal_checkpoint_back = checkpoint_back table.checkpoint
+  pub seal_checkpoint_back : checkpoint_in seal ≡ kept.table.checkpoint
+  seal_checkpoint_back = checkpoint_back kept.table.checkpoint
 
   -- the seal has the form
-  pub seal_is_formed : (size : ℕ) → HasForm sectors group size table → is_formed tag size seal ≡ true
+  pub seal_is_formed : (size : ℕ) → HasForm sectors group size kept → is_formed tag size seal ≡ true
   seal_is_formed size has =
       and_from _ _ (and_from _ _ (and_from _ _ (and_from _ _ (and_from _ _ (eq-eqb tag tag refl) groups) sizes) flags) (modes_said modes))
-      (checkpoint_beside table.checkpoint table.flush has.beside)
+      (checkpoint_beside kept.table.checkpoint kept.logs.flushing has.beside)
     where
       groups : has_group seal ≡ true
       groups = and_from _ _ (at_least 1 group has.first) (at_least group last_group has.last)
@@ -102,4 +103,4 @@ module _ (tag sectors group : ℕ) (modes : List Mode) (quota : Option ℕ) (tab
           (at_least sectors size has.there)
 
       flags : has_flags seal ≡ true
-      flags = and_from _ _ (flag_is_flag quota) (flag_is_flag table.checkpoint)
+      flags = and_from _ _ (flag_is_flag quota) (flag_is_flag kept.table.checkpoint)

@@ -19,10 +19,11 @@ use Rattle.pool_model.specs.Table.{TableState, IsTable, change_at, is_past}
 use Rattle.pool_model.specs.Logs.{last_changes, is_missing}
 use Rattle.table_state.specs.SealForms.{is_formed, has_group, has_size, has_flags, has_modes, has_checkpoint, fewest_sectors, most_sectors, last_group, checkpoint_in}
 use Rattle.table_state.specs.SlotRecords.{is_slot, in_range, slot_at, slot_in, kind_said, kind_at, slot_of as slot_said}
-use Rattle.table_state.specs.Flat.{Flat, IsRead, table_in, pointer_of, stands_before}
+use Rattle.table_state.specs.Flat.{Flat, IsRead, table_in, pointer_of, stands_before, logs_in}
 use Rattle.table_state.specs.Pools.{Held, IsHeld}
-use Rattle.table_state.specs.Sound.{IsSound, HasKeyLengths, HasLength}
-use Rattle.table_state.specs.Tables.{IsTableWithin}
+use Rattle.pool_model.specs.Logs.{Replays}
+use Rattle.table_state.specs.Sound.{IsSound, HasKeyLengths}
+use Rattle.table_state.specs.Tables.{IsTableWithin, AreLogsWithin, HasLength, HaveKeyLengths}
 use Rattle.table_state.specs.declared.slot_record.SlotRecord.{SlotRecord}
 use Rattle.pool_model.proofs.Lists.{all_filter}
 use Rattle.table_state.proofs.SlotCounts.{counts_held}
@@ -96,25 +97,33 @@ read_slots image seal flat read =
     (λ slot. is_slot seal.sectors seal.group slot
     ≡ true) (slot_ranged seal.sectors seal.group) read.slots flat.slots read.slots_spelled
 
+entry_lengths : (bytes : List (List ℕ)) (es : List Entry) → map change_in bytes ≡ map (λ entry. right (changes.Entry entry)) es
+    → AllByRecursion (λ entry. IsKeyLength entry.key.len) es
+entry_lengths bytes es spelled =
+    each_spelled change_in (λ entry. right (changes.Entry entry)) (λ entry. IsKeyLength entry.key.len)
+    (λ b entry is. change_length b (changes.Entry entry) is) bytes es spelled
+
+change_lengths : (bytes : List (List ℕ)) (log : List Change) → map change_in bytes ≡ map right log → AllByRecursion HasLength log
+change_lengths bytes log spelled = each_spelled change_in right HasLength change_length bytes log spelled
+
+-- the logs' keys have lengths that keys can have
+read_log_lengths : (image : Image) (seal : Seal) (flat : Flat) → IsRead image seal flat → HaveKeyLengths (logs_in flat)
+read_log_lengths image seal flat read = record {
+  active = change_lengths read.active flat.active read.active_spelled;
+  flushing = change_lengths read.flushing flat.flushing read.flushing_spelled;
+}
+
+-- and so the table's
 read_lengths : (image : Image) (seal : Seal) (flat : Flat) → IsRead image seal flat → HasKeyLengths (table_in seal flat)
 read_lengths image seal flat read = record {
   zap = all_fold entries_put (λ entry. IsKeyLength entry.key.len) flat.duplicate flat.unique
-      (entries read.duplicate flat.duplicate read.duplicate_spelled) (entries read.unique flat.unique read.unique_spelled);
+      (entry_lengths read.duplicate flat.duplicate read.duplicate_spelled) (entry_lengths read.unique flat.unique read.unique_spelled);
   flush =
       all_filter HasLength (λ change. is_past (checkpoint_in seal) (key_in change) && is_missing
       (change_at (key_in change) (last_changes flat.active))) (last_changes flat.flushing)
-      (all_fold changes_put HasLength flat.flushing [] (logged read.flushing flat.flushing read.flushing_spelled) tt);
-  active = all_fold changes_put HasLength flat.active [] (logged read.active flat.active read.active_spelled) tt;
+      (all_fold changes_put HasLength flat.flushing [] (change_lengths read.flushing flat.flushing read.flushing_spelled) tt);
+  active = all_fold changes_put HasLength flat.active [] (change_lengths read.active flat.active read.active_spelled) tt;
 }
-  where
-    entries : (bytes : List (List ℕ)) (es : List Entry) → map change_in bytes ≡ map (λ entry. right (changes.Entry entry)) es
-        → AllByRecursion (λ entry. IsKeyLength entry.key.len) es
-    entries bytes es spelled =
-        each_spelled change_in (λ entry. right (changes.Entry entry)) (λ entry. IsKeyLength entry.key.len)
-        (λ b entry is. change_length b (changes.Entry entry) is) bytes es spelled
-
-    logged : (bytes : List (List ℕ)) (log : List Change) → map change_in bytes ≡ map right log → AllByRecursion HasLength log
-    logged bytes log spelled = each_spelled change_in right HasLength change_length bytes log spelled
 
 -- ---- The numbers of the seal
 
@@ -169,6 +178,18 @@ module _ (image : Image) (held : Held) (pool : Pool) (table : TableState) (is : 
       (subst (λ n. IsTableWithin n held.group (table_in seal flat)) (sym is.sectors_are)
       (subst (λ n. IsTableWithin seal.sectors n (table_in seal flat)) (sym group_same) (table_in_within seal flat is.stands.whole)))
 
+  logs_ranged : AreLogsWithin held.sectors held.group held.logs
+  logs_ranged =
+      subst (AreLogsWithin held.sectors held.group) (sym is.logs_are)
+      (subst (λ n. AreLogsWithin n held.group (logs_in flat)) (sym is.sectors_are)
+      (subst (λ n. AreLogsWithin seal.sectors n (logs_in flat)) (sym group_same)
+      (record { active = is.stands.whole.active_within; flushing = is.stands.whole.flushing_within })))
+
+  -- and its logs are replayed to its table
+  pub held_replays : Replays held.table held.logs
+  held_replays = subst (λ (t : TableState). Replays t held.logs) (sym table_same)
+      (subst (Replays (table_in seal flat)) (sym is.logs_are) (record { active = refl; flush = refl }))
+
   -- what is held over an image is sound
   pub held_sound : IsSound held
   held_sound =
@@ -184,6 +205,8 @@ module _ (image : Image) (held : Held) (pool : Pool) (table : TableState) (is : 
         slots_within = slots_ranged;
         within = table_ranged;
         lengths = subst HasKeyLengths (sym table_same) (read_lengths image seal flat is.stands.read);
+        logs_within = logs_ranged;
+        log_lengths = subst HaveKeyLengths (sym is.logs_are) (read_log_lengths image seal flat is.stands.read);
         sorted = subst IsTable (sym table_same) (is_table_in seal flat is.stands.whole);
         slots_rising = subst (Pairwise (λ a b. stands_before a b ≡ true)) (sym is.slots_are) is.stands.whole.slots_rising;
         counts = counts_held image held pool table is;

@@ -6,10 +6,12 @@ use Rattle.ddt_entry.specs.declared.entry.Change.{Change}
 use Rattle.ddt_entry.specs.declared.entry.Change.TheVariants as changes
 use Rattle.ddt_entry.specs.Spelling.{IsKeyLength}
 use Rattle.pool_model.specs.Table.{TableState, sync_table}
+use Rattle.pool_model.specs.Logs.{Logs, LoggedTable, sync_logged}
 use Rattle.table_state.specs.Flat.{IsWithin, IsChangeWithin}
-use Rattle.table_state.specs.Sound.{HasLength, HasKeyLengths}
-use Rattle.table_state.specs.Tables.{IsTableWithin}
+use Rattle.table_state.specs.Sound.{HasKeyLengths}
+use Rattle.table_state.specs.Tables.{IsTableWithin, AreLogsWithin, HasLength, HaveKeyLengths}
 use Rattle.pool_model.proofs.Syncing.{sync_each}
+use Rattle.pool_model.proofs.Replays.{logs_each}
 use Rattle.pool_model.proofs.Lists.{all_from}
 
 within_later : (sectors group group' : ℕ) (entry : Entry) → group ≤ group' → IsWithin sectors group entry → IsWithin sectors group' entry
@@ -39,6 +41,15 @@ table_within_later sectors group group' table later within = record {
       (change_within_later sectors group group' later) table.active within.active;
 }
 
+pub logs_within_later : (sectors group group' : ℕ) (logs : Logs) → group ≤ group' → AreLogsWithin sectors group logs
+    → AreLogsWithin sectors group' logs
+logs_within_later sectors group group' logs later within = record {
+  active = all_from (IsChangeWithin sectors group) (IsChangeWithin sectors group')
+      (change_within_later sectors group group' later) logs.active within.active;
+  flushing = all_from (IsChangeWithin sectors group) (IsChangeWithin sectors group')
+      (change_within_later sectors group group' later) logs.flushing within.flushing;
+}
+
 -- a sync with changes in range leaves a table in range
 pub sync_within : (sectors group group' : ℕ) (log : List Change) (table : TableState) → group ≤ group' → IsTableWithin sectors group table
     → AllByRecursion (IsChangeWithin sectors group') log → IsTableWithin sectors group' (sync_table log table)
@@ -47,6 +58,23 @@ sync_within sectors group group' log table later within all =
     let each = sync_each (IsWithin sectors group') (IsChangeWithin sectors group') (λ entry here. here) log table
     (record { zap = first.zap; flush = first.flush; active = first.active }) all in
     record { zap = each.zap; flush = each.flush; active = each.active }
+
+-- and logs in range
+pub logs_sync_within : (sectors group group' : ℕ) (log : List Change) (kept : LoggedTable) → group ≤ group'
+    → AreLogsWithin sectors group kept.logs → AllByRecursion (IsChangeWithin sectors group') log
+    → AreLogsWithin sectors group' (sync_logged log kept).logs
+logs_sync_within sectors group group' log kept later within all =
+    let first = logs_within_later sectors group group' kept.logs later within in
+    let each = logs_each (IsChangeWithin sectors group') log kept.table kept.logs
+    (record { active = first.active; flushing = first.flushing }) all in
+    record { active = each.active; flushing = each.flushing }
+
+-- and logs with keys of lengths in their range
+pub logs_sync_lengths : (log : List Change) (kept : LoggedTable) → HaveKeyLengths kept.logs → AllByRecursion HasLength log
+    → HaveKeyLengths (sync_logged log kept).logs
+logs_sync_lengths log kept lengths all =
+    let each = logs_each HasLength log kept.table kept.logs (record { active = lengths.active; flushing = lengths.flushing }) all in
+    record { active = each.active; flushing = each.flushing }
 
 -- and with keys of lengths in their range, one of such keys
 pub sync_lengths : (log : List Change) (table : TableState) → HasKeyLengths table → AllByRecursion HasLength log

@@ -1,5 +1,5 @@
 -- A table that is read from an image is sorted and within its ranges, and the lists that a table is split into give it back.
-use Rattle.std.proofs.Common.{◌≡◌, ℕ, ◌<◌, Bool, true, false, not, ◌&&◌, List, [], filter, fold, Option, Some, None, option_map, refl, ap, ◌∙◌, arith}
+use Rattle.std.proofs.Common.{◌≡◌, ℕ, ◌<◌, Bool, true, false, not, ◌&&◌, List, [], filter, fold, Option, Some, None, option_map, refl, ap, ◌∙◌, arith, sym}
 use Rattle.std.specs.Prelude.{nat_lt, ◌==◌}
 use Rattle.std.specs.List.{AllByRecursion}
 use Rattle.std.specs.Ordering.{is_lt}
@@ -13,9 +13,9 @@ use Rattle.ddt_entry.specs.declared.entry.Change.{Change}
 use Rattle.ddt_entry.proofs.KeyLaws.{key_eq-symm}
 use Rattle.uber_ring.specs.declared.seal.Seal.{Seal}
 use Rattle.pool_model.specs.Table.{TableState, entry_at, change_at, set_entry, AreRising, is_past, IsTable, AreChangesRising}
-use Rattle.pool_model.specs.Logs.{last_changes, is_missing}
+use Rattle.pool_model.specs.Logs.{last_changes, is_missing, left_in, Logs, LoggedTable, Replays}
 use Rattle.table_state.specs.SealForms.{checkpoint_in}
-use Rattle.table_state.specs.Flat.{Flat, HoldTogether, IsWithin, IsChangeWithin, table_in}
+use Rattle.table_state.specs.Flat.{Flat, HoldTogether, IsWithin, IsChangeWithin, table_in, logs_in}
 use Rattle.table_state.specs.Tables.{IsTableWithin, unique_in, duplicate_in}
 use Rattle.pool_model.proofs.Lists.{all_from, all_from_both, all_each, all_filter, all_tested, filter_whole, pairs_filter, pairs_from, classes_apart, none_found}
 use Rattle.pool_model.proofs.Sorted.{rising_fold, all_fold, fold_back, split_back}
@@ -80,10 +80,6 @@ classes_back zap rising counted =
     (all_from (λ entry. nat_lt 0 entry.home.count ≡ true) (λ entry. nat_lt 1 entry.home.count ≡ not (entry.home.count == 1))
     (λ entry. counted_more_or_once entry.home.count) zap counted) rising
 
--- a sorted log is its own last changes
-pub last_back : (log : List Change) → AreChangesRising log → last_changes log ≡ log
-last_back log rising = fold_back changes_put log rising
-
 abbrev table_of : List Entry → List Change → List Change → ℕ → Option Key → TableState
 table_of zap flush active age checkpoint = record { zap = zap; flush = flush; active = active; age = age; checkpoint = checkpoint }
 
@@ -92,39 +88,20 @@ same_table : (zap zap' : List Entry) (flush flush' active active' : List Change)
     → table_of zap flush active age checkpoint ≡ table_of zap' flush' active' age' checkpoint'
 same_table zap zap' flush flush' active active' age age' checkpoint checkpoint' ez ef ea eg ec = cc
 
--- what a log leaves behind a checkpoint and beside an active log
-abbrev left_of : Option Key → List Change → List Change → List Change
-left_of checkpoint active log = filter (λ change. is_past checkpoint (key_in change) && is_missing (change_at (key_in change) active)) log
-
--- a sorted table comes back from an image that keeps its lists
-pub table_back : (table : TableState) (seal : Seal) (flat : Flat) → IsTable table → flat.unique ≡ unique_in table.zap
-    → flat.duplicate ≡ duplicate_in table.zap → flat.active ≡ table.active
-    → flat.flushing ≡ table.flush → seal.age ≡ table.age → checkpoint_in seal ≡ table.checkpoint → table_in seal flat ≡ table
-table_back table seal flat is unique duplicate active flushing age checkpoint =
+-- a sorted table comes back from an image that keeps its classes, and its logs as they were appended
+pub table_back : (kept : LoggedTable) (seal : Seal) (flat : Flat) → IsTable kept.table → Replays kept.table kept.logs
+    → flat.unique ≡ unique_in kept.table.zap → flat.duplicate ≡ duplicate_in kept.table.zap → logs_in flat ≡ kept.logs
+    → seal.age ≡ kept.table.age → checkpoint_in seal ≡ kept.table.checkpoint → table_in seal flat ≡ kept.table
+table_back kept seal flat is replays unique duplicate logs age checkpoint =
     same_table _ _ _ _ _ _ _ _ _ _
     (ap (λ (xs : List Entry). fold (λ entries entry. set_entry entry entries) xs flat.duplicate) unique
-    ∙ ap (λ (xs : List Entry). fold (λ entries entry. set_entry entry entries) (unique_in table.zap) xs) duplicate
-    ∙ classes_back table.zap is.zap_rising is.zap_counted)
-    (
-    ap (λ (c : Option Key). left_of c (last_changes flat.active) (last_changes flat.flushing)) checkpoint
-    ∙ ap (λ (log : List Change). left_of table.checkpoint log (last_changes flat.flushing)) active_is
-    ∙ ap (λ (log : List Change). left_of table.checkpoint table.active log)
-    (ap last_changes flushing ∙ last_back table.flush is.flush_rising)
-    ∙ filter_whole (λ change. is_past table.checkpoint (key_in change) && is_missing (change_at (key_in change) table.active)) table.flush
-    each_left
-    )
-    active_is age checkpoint
-  where
-    active_is : last_changes flat.active ≡ table.active
-    active_is = ap last_changes active ∙ last_back table.active is.active_rising
-
-    each_left : AllByRecursion
-        (λ change. (is_past table.checkpoint (key_in change) && is_missing (change_at (key_in change) table.active)) ≡ true) table.flush
-    each_left =
-        all_from_both (λ change. is_past table.checkpoint (key_in change) ≡ true) (λ change. change_at (key_in change) table.active ≡ None)
-        (λ change. (is_past table.checkpoint (key_in change) && is_missing (change_at (key_in change) table.active)) ≡ true)
-        (λ change past missing. and_from (is_past table.checkpoint (key_in change))
-        (is_missing (change_at (key_in change) table.active)) past (ap is_missing missing)) table.flush is.past is.logs_apart
+    ∙ ap (λ (xs : List Entry). fold (λ entries entry. set_entry entry entries) (unique_in kept.table.zap) xs) duplicate
+    ∙ classes_back kept.table.zap is.zap_rising is.zap_counted)
+    (ap (λ (c : Option Key). left_in c (last_changes flat.active) flat.flushing) checkpoint
+    ∙ ap (λ (l : Logs). left_in kept.table.checkpoint (last_changes l.active) l.flushing) logs
+    ∙ sym replays.flush)
+    (ap (λ (l : Logs). last_changes l.active) logs ∙ sym replays.active)
+    age checkpoint
 
 -- ---- The two classes
 

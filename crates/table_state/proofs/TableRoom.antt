@@ -12,6 +12,8 @@ use Rattle.table_state.specs.Tables.{unique_in, duplicate_in, table_pages}
 use Rattle.pool_model.proofs.Lists.{passing_filter, length-filter-le}
 use Rattle.pool_model.proofs.Sorted.{passing_put, length-put}
 use Rattle.pool_model.proofs.TablePuts.{entries_put, changes_put}
+use Rattle.pool_model.specs.Logs.{LoggedTable, sync_logged}
+use Rattle.pool_model.proofs.Replays.{logs_length}
 
 -- ---- The stored table
 
@@ -65,31 +67,6 @@ pub duplicate_sync : (log : List Change) (table : TableState)
     → length (duplicate_in (sync_table log table).zap) ≤ length (duplicate_in table.zap) + flush_limit table
 duplicate_sync log table = passing_sync (λ entry. nat_lt 1 entry.home.count) log table
 
--- ---- The logs
-
-logs_logged : (log : List Change) (table : TableState)
-    → length (logged log table).active + length (logged log table).flush ≤ length table.active + length table.flush + length log
-logs_logged [] table = omega arith
-logs_logged (change ∷ log) table = omega
-    (arith, logs_logged log (log_change table change), length-put changes_put change table.active, length-filter-le (λ c. not (key_eq (key_in c) (key_in change))) table.flush)
-
-logs_swapped : (table : TableState)
-    → length (swapped table).active + length (swapped table).flush ≤ length table.active + length table.flush
-logs_swapped table = by_due (is_due (aged table))
-  where
-    after : Bool → TableState
-    after b = if b then record table { flush = table.active; active = []; age = 0; checkpoint = None } else aged table
-
-    by_due : (b : Bool) → length (after b).active + length (after b).flush ≤ length table.active + length table.flush
-    by_due true = omega arith
-    by_due false = omega arith
-
--- a sync adds at most its changes to the logs
-pub logs_sync : (log : List Change) (table : TableState)
-    → length (sync_table log table).active + length (sync_table log table).flush ≤ length table.active + length table.flush + length log
-logs_sync log table = omega
-    (arith, logs_swapped (flushed (flush_limit table) (logged log table)), length-drop (flush_limit table) (logged log table).flush, logs_logged log table)
-
 -- ---- Pages
 
 pages_more : (n m k : ℕ) → m ≤ n + k → pages_for m ≤ pages_for n + pages_for k
@@ -101,18 +78,20 @@ pages_two a f a' f' k within = omega arith
 pub pages_for-le : (n : ℕ) → pages_for n ≤ n
 pages_for-le n = omega arith
 
--- the pages that slots and a table take after a sync, by those before it
-pub pages_after : (slots slots' c : ℕ) (log : List Change) (table : TableState) → slots' ≤ slots + c → length log ≤ c
-    → pages_for slots' + table_pages
-    (sync_table log table) ≤ pages_for slots + table_pages table + (2 * pages_for c + 2 * pages_for (flush_limit table) + 1)
-pages_after slots slots' c log table slots_within log_within =
-    in_all (pages_for slots) (pages_for slots') (pages_for c) (pages_for (flush_limit table)) _ _ _ _ _ _ _ _
+-- the pages that slots, a table and its logs take after a sync, by those before it
+pub pages_after : (slots slots' c : ℕ) (log : List Change) (kept : LoggedTable) → slots' ≤ slots + c → length log ≤ c
+    → pages_for slots' + table_pages (sync_logged log kept)
+    ≤ pages_for slots + table_pages kept + (2 * pages_for c + 2 * pages_for (flush_limit kept.table) + 1)
+pages_after slots slots' c log kept slots_within log_within =
+    in_all (pages_for slots) (pages_for slots') (pages_for c) (pages_for (flush_limit kept.table)) _ _ _ _ _ _ _ _
     (pages_more slots slots' c slots_within)
-    (pages_more (length (unique_in table.zap)) (length (unique_in (sync_table log table).zap)) (flush_limit table) (unique_sync log table))
-    (pages_more (length (duplicate_in table.zap)) (length (duplicate_in (sync_table log table).zap)) (flush_limit table)
-    (duplicate_sync log table))
-    (pages_two (length table.active) (length table.flush) (length (sync_table log table).active) (length (sync_table log table).flush) c
-    (shorter (length table.active + length table.flush) (logs_sync log table)))
+    (pages_more (length (unique_in kept.table.zap)) (length (unique_in (sync_table log kept.table).zap)) (flush_limit kept.table)
+    (unique_sync log kept.table))
+    (pages_more (length (duplicate_in kept.table.zap)) (length (duplicate_in (sync_table log kept.table).zap)) (flush_limit kept.table)
+    (duplicate_sync log kept.table))
+    (pages_two (length kept.logs.active) (length kept.logs.flushing) (length (sync_logged log kept).logs.active)
+    (length (sync_logged log kept).logs.flushing) c
+    (shorter (length kept.logs.active + length kept.logs.flushing) (logs_length log kept.table kept.logs)))
   where
     shorter : (n : ℕ) {m : ℕ} → m ≤ n + length log → m ≤ n + c
     shorter n within = omega (arith, within)
@@ -122,10 +101,10 @@ pages_after slots slots' c log table slots_within log_within =
     in_all s s' c' l u u' d d' a a' f f' es eu ed eaf = omega arith
 
 -- the same in plain numbers
-pub pages_after_plain : (slots slots' c : ℕ) (log : List Change) (table : TableState) → slots' ≤ slots + c → length log ≤ c
-    → pages_for slots' + table_pages (sync_table log table) ≤ pages_for slots + table_pages table + (2 * c + 2 * flush_limit table + 1)
-pages_after_plain slots slots' c log table slots_within log_within = at_most _ _ _ _ _ _
-    (pages_after slots slots' c log table slots_within log_within) (pages_for-le c) (pages_for-le (flush_limit table))
+pub pages_after_plain : (slots slots' c : ℕ) (log : List Change) (kept : LoggedTable) → slots' ≤ slots + c → length log ≤ c
+    → pages_for slots' + table_pages (sync_logged log kept) ≤ pages_for slots + table_pages kept + (2 * c + 2 * flush_limit kept.table + 1)
+pages_after_plain slots slots' c log kept slots_within log_within = at_most _ _ _ _ _ _
+    (pages_after slots slots' c log kept slots_within log_within) (pages_for-le c) (pages_for-le (flush_limit kept.table))
   where
     at_most : (new old pc pl c' l : ℕ) → new ≤ old + (2 * pc + 2 * pl + 1) → pc ≤ c' → pl ≤ l → new ≤ old + (2 * c' + 2 * l + 1)
     at_most new old pc pl c' l within ec el = omega arith

@@ -13,11 +13,12 @@ use Rattle.pool_model.specs.declared.closed.SlotChange.{SlotChange}
 use Rattle.pool_model.specs.Pool.{Pool, IsWellFormed}
 use Rattle.pool_model.specs.Mirrors.{Stored, stored_of}
 use Rattle.pool_model.specs.Table.{TableState, Matches, found, sync_table, waiting_in}
+use Rattle.pool_model.specs.Logs.{LoggedTable, sync_logged, logs_after}
 use Rattle.pool_model.specs.Group.{Standing}
 use Rattle.table_state.specs.Flat.{IsChangeWithin}
 use Rattle.table_state.specs.Pools.{Held, IsHeld, slots_after, pool_after, with_blocks}
 use Rattle.table_state.specs.Sealed.{ChangesSlotWithin, records_in}
-use Rattle.table_state.specs.Sound.{HasLength}
+use Rattle.table_state.specs.Tables.{HasLength}
 
 -- what a group leaves to its sync, without the room of its lists
 pub record PlainClosed : Type 0 where
@@ -40,6 +41,13 @@ closed_of closed = record {
 abbrev pub block_places : List Stored → List ℕ
 block_places contents = map (λ stored. stored.place) contents
 
+-- the table with its logs, before the group and after
+abbrev pub kept_of : Held → LoggedTable
+kept_of held = record { table = held.table; logs = held.logs }
+
+abbrev pub kept_after : Held → PlainClosed → LoggedTable
+kept_after held closed = sync_logged closed.log (kept_of held)
+
 -- the table, the pool, and what stands after the group, where its image has these pages
 abbrev pub table_after : Held → PlainClosed → TableState
 table_after held closed = sync_table closed.log held.table
@@ -53,6 +61,7 @@ abbrev pub standing_with : Image → Held → PlainClosed → (pages : List ℕ)
 standing_with image held closed pages = record {
   pool = pool_with image held closed;
   table = table_after held closed;
+  logs = logs_after closed.log held.table held.logs;
   blocks = λ place. sector_at (with_blocks closed.contents image) place;
   sectors = held.sectors;
   pages = pages;
@@ -60,7 +69,7 @@ standing_with image held closed pages = record {
 
 -- the records of the image after the group, chain by chain, and how many pages they take
 abbrev pub records_after : Held → PlainClosed → List (List (List ℕ))
-records_after held closed = records_in (slots_after closed.slots held.slots) (table_after held closed)
+records_after held closed = records_in (slots_after closed.slots held.slots) (kept_after held closed)
 
 abbrev pub pages_of : List (List (List ℕ)) → ℕ
 pages_of lists = sum_by (λ records. pages_for (length records)) lists

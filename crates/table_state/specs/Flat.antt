@@ -16,7 +16,7 @@ use Rattle.uber_ring.specs.Ring.{newest}
 use Rattle.uber_ring.specs.declared.seal.Seal.{Seal}
 use Rattle.pool_model.specs.Pool.{Pool, Pointer, Mark, plain, tracked, loose, Pairwise, IsWellFormed}
 use Rattle.pool_model.specs.Table.{TableState, entry_at, set_entry, found, AreRising, counted_homes, Matches, waiting_in}
-use Rattle.pool_model.specs.Logs.{last_changes, left_in}
+use Rattle.pool_model.specs.Logs.{last_changes, left_in, Logs}
 use Rattle.table_state.specs.SealForms.{is_formed, modes_in, quota_in, checkpoint_in, slots_root, unique_root, duplicate_root, active_root, flushing_root}
 use Rattle.table_state.specs.SlotRecords.{slot_in}
 use Rattle.table_state.specs.declared.slot_record.SlotRecord.{SlotRecord}
@@ -127,6 +127,10 @@ pointer_of image table slot = record {
   birth = slot.pointer.birth;
   mark = mark_of slot.pointer.kind (found table slot.pointer.key) slot.pointer.place slot.pointer.birth;
 }
+
+-- the logs as the chains keep them
+abbrev pub logs_in : Flat → Logs
+logs_in flat = record { active = flat.active; flushing = flat.flushing }
 
 abbrev pub pool_in : Image → Seal → Flat → Pool
 pool_in image seal flat = record {

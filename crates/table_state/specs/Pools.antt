@@ -10,13 +10,16 @@ use Rattle.pool_model.specs.Pool.{Pool}
 use Rattle.pool_model.specs.Mirrors.{Stored}
 use Rattle.pool_model.specs.Space.{used_sectors}
 use Rattle.pool_model.specs.Table.{TableState, empty_table}
-use Rattle.table_state.specs.Flat.{StandsFor, stands_before, pointer_of}
+use Rattle.pool_model.specs.Logs.{Logs, empty_logs}
+use Rattle.table_state.specs.Flat.{StandsFor, stands_before, pointer_of, logs_in}
 use Rattle.table_state.specs.declared.slot_record.SlotRecord.{SlotRecord}
 
--- what a pool in memory keeps: the slots, the table, the sectors of the image's pages, which sectors are used, the settings, and the seal's numbers
+-- what a pool in memory keeps: the slots, the table and its logs, the sectors of the image's pages, which sectors are used, the settings, and
+-- the seal's numbers
 pub record Held : Type 0 where
   pub slots : List SlotRecord
   pub table : TableState
+  pub logs : Logs
   pub pages : List ℕ
   pub used : List Bool
   pub modes : List Mode
@@ -30,6 +33,7 @@ pub record IsHeld (image : Image) (held : Held) (pool : Pool) (table : TableStat
   pub stands : StandsFor held.tag image pool table
   pub slots_are : held.slots ≡ stands.flat.slots
   pub table_is : held.table ≡ table
+  pub logs_are : held.logs ≡ logs_in stands.flat
   pub pages_are : held.pages ≡ stands.flat.named
   pub used_are : held.used ≡ used_sectors held.sectors held.pages pool table
   pub modes_are : held.modes ≡ pool.modes
@@ -42,6 +46,7 @@ abbrev pub new_held : (tag sectors : ℕ) → Held
 new_held tag sectors = record {
   slots = [];
   table = empty_table;
+  logs = empty_logs;
   pages = [];
   used = ring_used sectors;
   modes = replicate 16 On;

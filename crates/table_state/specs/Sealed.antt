@@ -1,7 +1,6 @@
 -- What a group's sync writes: the records of the five chains, and the seal.
 use Rattle.std.specs.Prelude.{◌≡◌, ℕ, ◌≤◌, true, List, [], ◌∷◌, ◌++◌, length, map, replicate, sum_by, Option, Some, None, IfSome}
 use Rattle.std.specs.List.{AllByRecursion, flat_map}
-use Rattle.ddt_entry.specs.Changes.{key_in}
 use Rattle.ddt_entry.specs.Spelling.{record_bytes, IsKeyLength, Fits as ChangeFits}
 use Rattle.ddt_entry.specs.declared.key.Key.{Key}
 use Rattle.ddt_entry.specs.declared.entry.Entry.{Entry}
@@ -19,11 +18,12 @@ use Rattle.pool_model.specs.declared.closed.SlotChange.{SlotChange}
 use Rattle.pool_model.specs.Pool.{Pool, Pairwise, IsWellFormed}
 use Rattle.pool_model.specs.Mirrors.{Stored}
 use Rattle.pool_model.specs.Table.{TableState, Matches, waiting_in, counted_homes, IsTable}
+use Rattle.pool_model.specs.Logs.{LoggedTable, Replays}
 use Rattle.table_state.specs.SealForms.{fewest_sectors, most_sectors, last_group}
 use Rattle.table_state.specs.Spelling.{mode_byte, slot_bytes, FitsSlot}
 use Rattle.table_state.specs.SlotRecords.{is_slot}
-use Rattle.table_state.specs.Flat.{Flat, image_version, stands_before, IsClear}
-use Rattle.table_state.specs.Tables.{IsTableWithin, unique_in, duplicate_in}
+use Rattle.table_state.specs.Flat.{Flat, image_version, stands_before, IsClear, IsWithin}
+use Rattle.table_state.specs.Tables.{AreLogsWithin, HaveKeyLengths, unique_in, duplicate_in}
 use Rattle.table_state.specs.Pools.{with_blocks}
 use Rattle.table_state.specs.declared.slot_record.SlotRecord.{SlotRecord}
 
@@ -50,15 +50,21 @@ abbrev pub entry_bytes : Entry → List ℕ
 entry_bytes entry = record_bytes (changes.Entry entry)
 
 -- the records of the five chains: slots, unique, duplicate, active, flushing
-abbrev pub records_in : List SlotRecord → TableState → List (List (List ℕ))
-records_in slots table =
-    map slot_bytes slots ∷ map entry_bytes (unique_in table.zap) ∷ map entry_bytes
-    (duplicate_in table.zap) ∷ map record_bytes table.active ∷ map record_bytes table.flush ∷ []
+abbrev pub records_in : List SlotRecord → LoggedTable → List (List (List ℕ))
+records_in slots kept =
+    map slot_bytes slots ∷ map entry_bytes (unique_in kept.table.zap) ∷ map entry_bytes (duplicate_in kept.table.zap)
+    ∷ map record_bytes kept.logs.active ∷ map record_bytes kept.logs.flushing ∷ []
 
 -- what an image keeps then
-abbrev pub flat_of : List SlotRecord → TableState → (pages : List ℕ) → Flat
-flat_of slots table pages =
-    record { slots = slots; unique = unique_in table.zap; duplicate = duplicate_in table.zap; active = table.active; flushing = table.flush; named = pages }
+abbrev pub flat_of : List SlotRecord → LoggedTable → (pages : List ℕ) → Flat
+flat_of slots kept pages = record {
+  slots = slots;
+  unique = unique_in kept.table.zap;
+  duplicate = duplicate_in kept.table.zap;
+  active = kept.logs.active;
+  flushing = kept.logs.flushing;
+  named = pages;
+}
 
 -- ---- The seal
 
@@ -79,8 +85,8 @@ checkpoint_digest None = replicate 32 0
 checkpoint_digest (Some key) = key.digest
 
 -- the seal of a group: the settings, the state of the table, the roots of the five chains with a null pointer behind them, and the sums
-abbrev pub seal_of : (tag sectors group : ℕ) → List Mode → Option ℕ → TableState → (roots : List PagePtr) → (pages : ℕ) → Seal
-seal_of tag sectors group modes quota table roots pages = record {
+abbrev pub seal_of : (tag sectors group : ℕ) → List Mode → Option ℕ → LoggedTable → (roots : List PagePtr) → (pages : ℕ) → Seal
+seal_of tag sectors group modes quota kept roots pages = record {
   version = image_version;
   tag = tag;
   group = group;
@@ -88,22 +94,22 @@ seal_of tag sectors group modes quota table roots pages = record {
   quota = quota_number quota;
   quota_flag = flag_of quota;
   modes = map mode_byte modes;
-  age = table.age;
-  active_changes = length table.active;
-  flushing_changes = length table.flush;
-  checkpoint_flag = flag_of table.checkpoint;
-  checkpoint_len = checkpoint_len table.checkpoint;
-  checkpoint_digest = checkpoint_digest table.checkpoint;
+  age = kept.table.age;
+  active_changes = length kept.logs.active;
+  flushing_changes = length kept.logs.flushing;
+  checkpoint_flag = flag_of kept.table.checkpoint;
+  checkpoint_len = checkpoint_len kept.table.checkpoint;
+  checkpoint_digest = checkpoint_digest kept.table.checkpoint;
   pointers = roots ++ null_pointer ∷ [];
-  homes = length (counted_homes table);
-  counts = sum_by (λ entry. entry.home.count) (counted_homes table);
+  homes = length (counted_homes kept.table);
+  counts = sum_by (λ entry. entry.home.count) (counted_homes kept.table);
   pages = pages;
 }
 
 -- ---- When an image holds all of a group
 
--- slots and changes that an image can keep: in their ranges, sorted, each with a spelling
-pub record CanBeKept (sectors group : ℕ) (slots : List SlotRecord) (table : TableState) : Type 0 where
+-- slots, a table and its logs that an image can keep: in their ranges, sorted, each with a spelling
+pub record CanBeKept (sectors group : ℕ) (slots : List SlotRecord) (kept : LoggedTable) : Type 0 where
   pub enough : fewest_sectors ≤ sectors
   pub few : sectors ≤ most_sectors
   pub first : 1 ≤ group
@@ -111,15 +117,16 @@ pub record CanBeKept (sectors group : ℕ) (slots : List SlotRecord) (table : Ta
   pub slots_within : AllByRecursion (λ slot. is_slot sectors group slot ≡ true) slots
   pub slots_rising : Pairwise (λ a b. stands_before a b ≡ true) slots
   pub slots_fit : AllByRecursion FitsSlot slots
-  pub sorted : IsTable table
-  pub within : IsTableWithin sectors group table
-  pub zap_fits : AllByRecursion (λ entry. ChangeFits (changes.Entry entry)) table.zap
-  pub flush_fits : AllByRecursion ChangeFits table.flush
-  pub active_fits : AllByRecursion ChangeFits table.active
-  pub zap_lengths : AllByRecursion (λ entry. IsKeyLength entry.key.len) table.zap
-  pub flush_lengths : AllByRecursion (λ change. IsKeyLength (key_in change).len) table.flush
-  pub active_lengths : AllByRecursion (λ change. IsKeyLength (key_in change).len) table.active
-  pub checkpoint : table.flush ≡ [] → table.checkpoint ≡ None
+  pub sorted : IsTable kept.table
+  pub replays : Replays kept.table kept.logs
+  pub zap_within : AllByRecursion (IsWithin sectors group) kept.table.zap
+  pub logs_within : AreLogsWithin sectors group kept.logs
+  pub zap_fits : AllByRecursion (λ entry. ChangeFits (changes.Entry entry)) kept.table.zap
+  pub active_fits : AllByRecursion ChangeFits kept.logs.active
+  pub flushing_fits : AllByRecursion ChangeFits kept.logs.flushing
+  pub zap_lengths : AllByRecursion (λ entry. IsKeyLength entry.key.len) kept.table.zap
+  pub log_lengths : HaveKeyLengths kept.logs
+  pub checkpoint : kept.table.flush ≡ [] → kept.table.checkpoint ≡ None
 
 -- the slot that a change makes of a pointer
 abbrev pub changed_slot : SlotChange → SlotPointer → SlotRecord
@@ -139,9 +146,9 @@ pub record CanStand (sectors : ℕ) (places : List ℕ) (pool : Pool) (table : T
   pub pointers_clear : AllByRecursion (λ p. IsClear places p.place) pool.pointers
   pub waiting_clear : AllByRecursion (λ entry. IsClear places entry.home.place) (waiting_in table)
 
--- chains of these slots and this table, each page at a place of its own
-pub record AreParts (sectors : ℕ) (slots : List SlotRecord) (table : TableState) (parts : List ChainPart) : Type 0 where
-  pub spelled : map (λ part. part.records) parts ≡ records_in slots table
+-- chains of these slots, this table and its logs, each page at a place of its own
+pub record AreParts (sectors : ℕ) (slots : List SlotRecord) (kept : LoggedTable) (parts : List ChainPart) : Type 0 where
+  pub spelled : map (λ part. part.records) parts ≡ records_in slots kept
   pub pages : AllByRecursion (λ part. length part.places ≡ pages_for (length part.records)) parts
   pub places_open : AreOpen sectors [] (places_in parts)
 
@@ -150,9 +157,9 @@ abbrev pub SameBlocks : (image c : Image) → List SlotRecord → Type 0
 SameBlocks image c slots = AllByRecursion (λ slot. sector_at c slot.pointer.place ≡ sector_at image slot.pointer.place) slots
 
 -- an image after a group's sync: the group's seal counts, its chains are there, and the blocks of its slots stand as in the old image with the group's blocks
-pub record IsSealedImage (tag sectors group : ℕ) (image c : Image) (slots : List SlotRecord) (table : TableState) (modes : List Mode)
+pub record IsSealedImage (tag sectors group : ℕ) (image c : Image) (slots : List SlotRecord) (kept : LoggedTable) (modes : List Mode)
     (quota : Option ℕ) (contents : List Stored) (parts : List ChainPart) : Type 0 where
-  pub counts : newest image_version c ≡ Some (seal_of tag sectors group modes quota table (roots_of parts) (length (places_in parts)))
+  pub counts : newest image_version c ≡ Some (seal_of tag sectors group modes quota kept (roots_of parts) (length (places_in parts)))
   pub there : sectors ≤ length c
   pub held : HoldsParts c parts
   pub blocks : SameBlocks (with_blocks contents image) c slots

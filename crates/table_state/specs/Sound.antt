@@ -1,9 +1,7 @@
 -- What holds of a pool in memory whatever the disk tells: its numbers are in their ranges.
 use Rattle.std.specs.Prelude.{◌≡◌, ◌<◌, ◌≤◌, ℕ, true, length, slice_index_or, Some}
 use Rattle.std.specs.List.{AllByRecursion}
-use Rattle.ddt_entry.specs.Changes.{key_in}
 use Rattle.ddt_entry.specs.Spelling.{IsKeyLength}
-use Rattle.ddt_entry.specs.declared.entry.Change.{Change}
 use Rattle.ddt_entry.specs.declared.key.Key.{Key}
 use Rattle.ddt_entry.specs.declared.entry.Home.{Home}
 use Rattle.pool_model.specs.Pool.{Pairwise}
@@ -12,10 +10,7 @@ use Rattle.table_state.specs.Flat.{stands_before}
 use Rattle.table_state.specs.Pools.{Held}
 use Rattle.table_state.specs.SealForms.{fewest_sectors, most_sectors, last_group}
 use Rattle.table_state.specs.SlotRecords.{is_slot}
-use Rattle.table_state.specs.Tables.{IsTableWithin}
-
-abbrev pub HasLength : Change → Type 0
-HasLength change = IsKeyLength (key_in change).len
+use Rattle.table_state.specs.Tables.{IsTableWithin, AreLogsWithin, HasLength, HaveKeyLengths}
 
 -- each key of a table has a length that a key can have
 pub record HasKeyLengths (table : TableState) : Type 0 where
@@ -34,5 +29,7 @@ pub record IsSound (held : Held) : Type 0 where
   pub slots_rising : Pairwise (λ a b. stands_before a b ≡ true) held.slots
   pub within : IsTableWithin held.sectors held.group held.table
   pub lengths : HasKeyLengths held.table
+  pub logs_within : AreLogsWithin held.sectors held.group held.logs
+  pub log_lengths : HaveKeyLengths held.logs
   pub sorted : IsTable held.table
   pub counts : (key : Key) (home : Home) → found held.table key ≡ Some home → home.count ≤ length held.slots

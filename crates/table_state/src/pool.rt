@@ -1,4 +1,5 @@
 use crate::slot_record::SlotRecord;
+use ddt_entry::Change;
 use grant_book::SectorSet;
 use page_tree::SectorList;
 use plain_table::PlainTable;
@@ -9,6 +10,23 @@ use std::marker::Model;
 /// Slots that hold a pointer.
 pub type SlotList = ReservedList<SlotRecord>;
 
+/// The changes that were appended to each of the two logs since it was last empty.
+#[derive(Drop)]
+pub struct KeptLogs {
+    /// The active log, which grows.
+    pub active: Vec<Change>,
+    /// The log that is being flushed. It is kept whole until nothing is left to flush.
+    pub flushing: Vec<Change>,
+}
+
+impl Model for KeptLogs {
+    ghost use Rattle.pool_model.specs.Logs.{Logs};
+
+    ghost Value = { Logs };
+
+    ghost view = { λ logs. record { active = logs.active.items; flushing = logs.flushing.items } };
+}
+
 /// A pool in memory, as the newest sealed group left it.
 #[derive(Drop)]
 pub struct Pool {
@@ -16,6 +34,8 @@ pub struct Pool {
     pub slots: SlotList,
     /// The dedup table with its logs.
     pub table: PlainTable,
+    /// The changes of its logs, in the order in which they were appended.
+    pub logs: KeptLogs,
     /// The sectors of the image's metadata pages.
     pub pages: SectorList,
     /// The sectors that the ring, a page, a pointer or a waiting home names.
@@ -40,6 +60,7 @@ impl Model for Pool {
     ghost view = { λ pool. record {
       slots = pool.slots.items;
       table = pool.table;
+      logs = pool.logs;
       pages = pool.pages.items;
       used = pool.used;
       modes = pool.modes;
