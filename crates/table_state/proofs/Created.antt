@@ -147,6 +147,7 @@ new_is_sound tag sectors enough few = record {
   lengths = record { zap = tt; flush = tt; active = tt };
   logs_within = record { active = tt; flushing = tt };
   log_lengths = record { active = tt; flushing = tt };
+  replays = record { active = refl; flush = refl };
   sorted = empty_sorted;
   counts = λ key home found. absurd (cc found);
 }

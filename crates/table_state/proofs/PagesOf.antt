@@ -13,14 +13,15 @@ use Rattle.page_tree.specs.ChainWrites.{pages_for}
 use Rattle.page_tree.specs.declared.pointer.PagePtr.{PagePtr}
 use Rattle.page_tree.proofs.ChainPages.{chain_pages}
 use Rattle.uber_ring.specs.declared.seal.Seal.{Seal}
-use Rattle.pool_model.specs.Table.{change_at, is_past}
-use Rattle.pool_model.specs.Logs.{last_changes, is_missing}
+use Rattle.pool_model.specs.Table.{change_at, is_past, TableState}
+use Rattle.pool_model.specs.Logs.{last_changes, is_missing, Logs, Replays, is_left}
 use Rattle.table_state.specs.SealForms.{checkpoint_in, slots_root, unique_root, duplicate_root, active_root, flushing_root}
 use Rattle.table_state.specs.Flat.{Flat, IsRead, Reads, HoldTogether, table_in, logs_in}
 use Rattle.table_state.specs.Tables.{unique_in, duplicate_in, table_pages}
 use Rattle.pool_model.proofs.Lists.{all_from, length-cond, length-filter-le}
 use Rattle.pool_model.proofs.Sorted.{IsPut, passing_put, length-put}
 use Rattle.pool_model.proofs.TablePuts.{entries_put, changes_put}
+use Rattle.ddt_entry.specs.declared.entry.Change.{Change}
 
 -- ---- The pages of the chains
 
@@ -105,6 +106,19 @@ module _ {K X : Type 0} {order : K → K → Ordering} {key_of : X → K} {put :
   length-fold : (xs sorted : List X) → length (fold (λ ys x. put x ys) sorted xs) ≤ length sorted + length xs
   length-fold [] sorted = omega arith
   length-fold (x ∷ xs) sorted = omega (arith, length-fold xs (put x sorted), length-put is x sorted)
+
+-- the lists of a table have no more changes than its logs
+pub listed_fewer : (table : TableState) (logs : Logs) → Replays table logs
+    → (length table.active ≤ length logs.active) × (length table.flush ≤ length logs.flushing)
+listed_fewer table logs is = (
+  omega (arith, ap (λ (l : List Change). length l) is.active, length-fold changes_put logs.active []),
+  omega (
+      arith,
+      ap (λ (l : List Change). length l) is.flush,
+      length-filter-le (λ change. is_left table.checkpoint (last_changes logs.active) (key_in change)) (last_changes logs.flushing),
+      length-fold changes_put logs.flushing [],
+    ),
+)
 
 -- ---- The table that is read
 

@@ -207,6 +207,7 @@ module _ (image : Image) (held : Held) (pool : Pool) (table : TableState) (is : 
         lengths = subst HasKeyLengths (sym table_same) (read_lengths image seal flat is.stands.read);
         logs_within = logs_ranged;
         log_lengths = subst HaveKeyLengths (sym is.logs_are) (read_log_lengths image seal flat is.stands.read);
+        replays = held_replays;
         sorted = subst IsTable (sym table_same) (is_table_in seal flat is.stands.whole);
         slots_rising = subst (Pairwise (λ a b. stands_before a b ≡ true)) (sym is.slots_are) is.stands.whole.slots_rising;
         counts = counts_held image held pool table is;

@@ -11,6 +11,7 @@ use Rattle.table_state.specs.Pools.{Held}
 use Rattle.table_state.specs.SealForms.{fewest_sectors, most_sectors, last_group}
 use Rattle.table_state.specs.SlotRecords.{is_slot}
 use Rattle.table_state.specs.Tables.{IsTableWithin, AreLogsWithin, HasLength, HaveKeyLengths}
+use Rattle.pool_model.specs.Logs.{Replays}
 
 -- each key of a table has a length that a key can have
 pub record HasKeyLengths (table : TableState) : Type 0 where
@@ -31,5 +32,6 @@ pub record IsSound (held : Held) : Type 0 where
   pub lengths : HasKeyLengths held.table
   pub logs_within : AreLogsWithin held.sectors held.group held.logs
   pub log_lengths : HaveKeyLengths held.logs
+  pub replays : Replays held.table held.logs
   pub sorted : IsTable held.table
   pub counts : (key : Key) (home : Home) → found held.table key ≡ Some home → home.count ≤ length held.slots

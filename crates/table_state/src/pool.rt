@@ -1,3 +1,6 @@
+ghost use Rattle.std.specs.Prelude.{◌≡◌};
+ghost use Rattle.pool_model.specs.Logs.{empty_logs};
+
 use crate::slot_record::SlotRecord;
 use ddt_entry::Change;
 use grant_book::SectorSet;
@@ -5,6 +8,7 @@ use page_tree::SectorList;
 use plain_table::PlainTable;
 use pool_model::Mode;
 use reserved_list::ReservedList;
+use std::alloc::Global;
 use std::marker::Model;
 
 /// Slots that hold a pointer.
@@ -25,6 +29,18 @@ impl Model for KeptLogs {
     ghost Value = { Logs };
 
     ghost view = { λ logs. record { active = logs.active.items; flushing = logs.flushing.items } };
+}
+
+impl KeptLogs {
+    /// Logs without changes. Takes no memory.
+    pub fn new(alloc: Global) -> KeptLogs
+        ensures { result ≡ empty_logs }
+    {
+        KeptLogs {
+            active: Vec::new(alloc),
+            flushing: Vec::new(alloc),
+        }
+    }
 }
 
 /// A pool in memory, as the newest sealed group left it.

@@ -1,5 +1,5 @@
 -- What a sync is going to write, before anything is written: the pool after the group, its chains with their places, and the seal.
-use Rattle.std.specs.Prelude.{◌≡◌, ℕ, ◌+◌, List, [], ◌∷◌, ◌++◌, length}
+use Rattle.std.specs.Prelude.{◌≡◌, ℕ, ◌+◌, List, [], ◌∷◌, ◌++◌, length, ◌==◌}
 use Rattle.page_tree.specs.Pointers.{null_pointer}
 use Rattle.page_tree.specs.declared.pointer.PagePtr.{PagePtr}
 use Rattle.pool_model.specs.Space.{used_sectors}
@@ -7,14 +7,21 @@ use Rattle.pool_model.specs.Table.{TableState, sync_table}
 use Rattle.uber_ring.specs.declared.seal.Seal.{Seal}
 use Rattle.table_state.specs.declared.slot_record.SlotRecord.{SlotRecord}
 use Rattle.txg_sync.specs.Placing.{ArePlaced, AreUsed}
-use Rattle.table_state.specs.Closing.{PlainClosed}
+use Rattle.table_state.specs.Closing.{PlainClosed, kept_of}
 use Rattle.table_state.specs.Pools.{Held, slots_after, pool_after}
 use Rattle.table_state.specs.Sealed.{ChainPart, places_in, records_in, seal_of}
+use Rattle.pool_model.specs.Logs.{Logs, LoggedTable, appended, emptied, exchanged, logs_after}
+use Rattle.ddt_entry.specs.declared.entry.Change.{Change}
+
+-- the logs after a sync with these changes that left this table: where they were swapped just now, its age is 0
+abbrev pub logs_by : (after : TableState) → List Change → Logs → Logs
+logs_by after changes logs = exchanged (after.age == 0) (emptied after.flush (appended changes logs))
 
 -- the pool in memory after the group, whose image has these pages
 pub record IsNext (held : Held) (closed : PlainClosed) (pages : List ℕ) (next : Held) : Type 0 where
   pub slots_are : next.slots ≡ slots_after closed.slots held.slots
   pub table_is : next.table ≡ sync_table closed.log held.table
+  pub logs_are : next.logs ≡ logs_after closed.log held.table held.logs
   pub pages_are : next.pages ≡ pages
   pub used_are : next.used
       ≡ used_sectors held.sectors pages (pool_after [] [] next.slots next.table closed.modes closed.quota (held.group + 1)) next.table
@@ -25,12 +32,12 @@ pub record IsNext (held : Held) (closed : PlainClosed) (pages : List ℕ) (next 
   pub sectors_are : next.sectors ≡ held.sectors
 
 -- a pool in memory that is made of these
-pub record IsMadeOf (held : Held) (closed : PlainClosed) (slots : List SlotRecord) (table : TableState) (pages : List ℕ)
+pub record IsMadeOf (held : Held) (closed : PlainClosed) (slots : List SlotRecord) (kept : LoggedTable) (pages : List ℕ)
     (next : Held) : Type 0 where
   pub slots_are : next.slots ≡ slots
-  pub table_is : next.table ≡ table
+  pub kept_is : kept_of next ≡ kept
   pub pages_are : next.pages ≡ pages
-  pub used_are : AreUsed held.sectors pages slots table next.used
+  pub used_are : AreUsed held.sectors pages slots kept.table next.used
   pub modes_are : next.modes ≡ closed.modes
   pub quota_is : next.quota ≡ closed.quota
   pub tag_is : next.tag ≡ held.tag
@@ -40,7 +47,7 @@ pub record IsMadeOf (held : Held) (closed : PlainClosed) (slots : List SlotRecor
 -- a plan: the pool after the group, its chains, and the seal, whose roots are known once the pages are written
 pub record IsPlan (held : Held) (closed : PlainClosed) (next : Held) (parts : List ChainPart) (seal : Seal) : Type 0 where
   pub is_next : IsNext held closed (places_in parts) next
-  pub placed : ArePlaced held.used closed.contents (records_in next.slots next.table) parts
+  pub placed : ArePlaced held.used closed.contents (records_in next.slots (kept_of next)) parts
   pub seal_is : (roots : List PagePtr)
       → record seal { pointers = roots ++ null_pointer ∷ [] } ≡ seal_of held.tag held.sectors (held.group + 1) closed.modes closed.quota
-      next.table roots (length (places_in parts))
+      (kept_of next) roots (length (places_in parts))

@@ -5,32 +5,32 @@ ghost use Rattle.table_state.specs.Sealed.{entry_bytes, records_in};
 ghost use Rattle.table_state.specs.Spelling.{slot_bytes};
 ghost use Rattle.table_state.specs.Tables.{unique_in, duplicate_in};
 
+use crate::kept::Kept;
 use ddt_entry::{Change, Entry, RECORD_BYTES, write_change};
 use page_tree::RecordList;
-use plain_table::PlainTable;
 use std::alloc::{AllocError, Global};
 use table_state::{SlotRecord, write_slot};
 
 /// The records of the five chains of a group: of its slots, of the unique and the duplicate entries of the
-/// stored table, of the active and of the flushing log. The error is want of memory.
+/// stored table, of all changes of the active and of the flushing log. The error is want of memory.
 pub fn records_of(
     alloc: Global,
     slots: &[SlotRecord],
-    table: &PlainTable,
+    kept: &Kept,
 ) -> Result<Vec<RecordList>, AllocError>
-    requires zap { All (λ entry. IsKeyLength entry.key.len) table.now.zap }
-    requires active { All (λ change. IsKeyLength (key_in change).len) table.now.active }
-    requires flush { All (λ change. IsKeyLength (key_in change).len) table.now.flush }
-    ensures { IfOk result (λ lists. map (λ list. list.items) lists.items ≡ records_in slots.now table.now) }
+    requires zap { All (λ entry. IsKeyLength entry.key.len) kept.now.table.zap }
+    requires active { All (λ change. IsKeyLength (key_in change).len) kept.now.logs.active }
+    requires flushing { All (λ change. IsKeyLength (key_in change).len) kept.now.logs.flushing }
+    ensures { IfOk result (λ lists. map (λ list. list.items) lists.items ≡ records_in slots.now kept.now) }
 {
-    let unique = unique_in(Vec::from_slice(alloc, table.zap.as_slice())?);
-    let duplicate = duplicate_in(Vec::from_slice(alloc, table.zap.as_slice())?);
+    let unique = unique_in(Vec::from_slice(alloc, kept.table.zap.as_slice())?);
+    let duplicate = duplicate_in(Vec::from_slice(alloc, kept.table.zap.as_slice())?);
     let mut lists = Vec::new(alloc);
     lists.push(slot_records(alloc, slots)?)?;
     lists.push(entry_records(alloc, unique.as_slice())?)?;
     lists.push(entry_records(alloc, duplicate.as_slice())?)?;
-    lists.push(change_records(alloc, table.active.as_slice())?)?;
-    lists.push(change_records(alloc, table.flush.as_slice())?)?;
+    lists.push(change_records(alloc, kept.logs.active.as_slice())?)?;
+    lists.push(change_records(alloc, kept.logs.flushing.as_slice())?)?;
     Ok(lists)
 }
 

@@ -20,7 +20,7 @@ use page_tree::SectorList;
 use plain_table::PlainTable;
 use pool_model::{Mode, SyncFault};
 use std::alloc::{AllocError, Global};
-use table_state::{Pool, SlotList};
+use table_state::{KeptLogs, Pool, SlotList};
 
 /// The empty pool of group 1. The error is want of memory.
 fn new_pool(alloc: Global, tag: u8, sectors: u64) -> Result<Pool, AllocError>
@@ -30,6 +30,7 @@ fn new_pool(alloc: Global, tag: u8, sectors: u64) -> Result<Pool, AllocError>
     Ok(Pool {
         slots: SlotList::new(alloc),
         table: PlainTable::new(alloc),
+        logs: KeptLogs::new(alloc),
         pages: SectorList::new(alloc),
         used: SectorSet::with_ring(alloc, sectors)?,
         modes: [Mode::On; 16],

@@ -8,7 +8,7 @@ ghost use Rattle.table_state.specs.Spelling.{FitsSlot};
 
 use ddt_entry::{Change, Entry, Home};
 use plain_table::PlainTable;
-use table_state::{SlotRecord, key_fits, slot_fits};
+use table_state::{KeptLogs, SlotRecord, key_fits, slot_fits};
 
 /// Slots that code has in hand fit.
 pub fn slots_fit(slots: &[SlotRecord])
@@ -19,15 +19,20 @@ pub fn slots_fit(slots: &[SlotRecord])
     }
 }
 
-/// The lists of a table that code has in hand fit.
+/// The stored homes of a table that code has in hand fit.
 pub fn table_fits(table: &PlainTable)
-    ensures zap { AllByRecursion (λ entry. Fits (AnEntry entry)) table.now.zap }
-    ensures flush { AllByRecursion Fits table.now.flush }
-    ensures active { AllByRecursion Fits table.now.active }
+    ensures { AllByRecursion (λ entry. Fits (AnEntry entry)) table.now.zap }
 {
     entries_fit(table.zap.as_slice());
-    changes_fit(table.flush.as_slice());
-    changes_fit(table.active.as_slice());
+}
+
+/// The changes of logs that code has in hand fit.
+pub fn logs_fit(logs: &KeptLogs)
+    ensures active { AllByRecursion Fits logs.now.active }
+    ensures flushing { AllByRecursion Fits logs.now.flushing }
+{
+    changes_fit(logs.active.as_slice());
+    changes_fit(logs.flushing.as_slice());
 }
 
 /// Entries that code has in hand fit.

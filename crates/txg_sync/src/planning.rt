@@ -3,11 +3,11 @@ ghost use Rattle.std.specs.List.{AllByRecursion};
 ghost use Rattle.ddt_entry.specs.Spelling.{IsKeyLength};
 ghost use Rattle.page_tree.specs.Pointers.{null_pointer};
 ghost use Rattle.page_tree.specs.declared.pointer.PagePtr.{PagePtr};
-ghost use Rattle.pool_model.specs.Table.{entries_found, sync_table};
+ghost use Rattle.pool_model.specs.Table.{entries_found};
 ghost use Rattle.table_state.specs.SealForms.{last_group};
 ghost use Rattle.table_state.specs.Pools.{slots_after};
 ghost use Rattle.table_state.specs.Sealed.{places_in, records_in, seal_of};
-ghost use Rattle.table_state.specs.Tables.{IsTableWithin};
+ghost use Rattle.table_state.specs.Tables.{IsTableWithin, HaveKeyLengths};
 ghost use Rattle.table_state.specs.Sound.{IsSound, HasKeyLengths};
 ghost use Rattle.table_state.specs.Closing.{closed_of, IsInRange, records_after};
 ghost use Rattle.txg_sync.specs.Planning.{IsMadeOf, IsPlan};
@@ -15,12 +15,12 @@ ghost use Rattle.txg_sync.specs.Placing.{ArePlaced, LacksRoom};
 
 use crate::chain_records::records_of;
 use crate::group_seal::seal_of;
+use crate::kept::{Kept, kept_after};
 use crate::next_slots::slots_after;
 use crate::part::ChainPages;
 use crate::places::place_chains;
 use crate::used::used_after;
 use page_tree::SectorList;
-use plain_table::PlainTable;
 use pool_model::Closed;
 use std::alloc::{AllocError, Global};
 use table_state::{Pool, SlotList, SlotRecord};
@@ -48,27 +48,19 @@ fn pages_of(alloc: Global, parts: &[ChainPages]) -> Result<SectorList, AllocErro
     Ok(SectorList::from_vec(pages))
 }
 
-/// The table after the group. The error is want of memory.
-fn table_of(alloc: Global, pool: &Pool, closed: &Closed) -> Result<PlainTable, AllocError>
-    ensures { IfOk result (λ table. table ≡ sync_table closed.now.changes.items pool.now.table) }
-{
-    let table = pool.table.copied(alloc)?;
-    table.sync_table(alloc, closed.changes.as_slice())
-}
-
 /// The seal of the group, of whose table few homes are found. The error is want of memory.
 fn seal_after(
     alloc: Global,
     pool: &Pool,
     closed: &Closed,
-    table: &PlainTable,
+    kept: &Kept,
     pages: u64,
 ) -> Result<Seal, AllocError>
     requires last { pool.now.group + 1 ≤ last_group }
-    requires within { IsTableWithin pool.now.sectors (pool.now.group + 1) table.now }
-    requires few { length (entries_found table.now) ≤ 2 ^ 40 }
+    requires within { IsTableWithin pool.now.sectors (pool.now.group + 1) kept.now.table }
+    requires few { length (entries_found kept.now.table) ≤ 2 ^ 40 }
     ensures { IfOk result (λ seal. (roots : List PagePtr) → record seal { pointers = roots ++ null_pointer ∷ [] }
-        ≡ seal_of pool.now.tag pool.now.sectors (pool.now.group + 1) closed.now.modes closed.now.quota table.now roots pages) }
+        ≡ seal_of pool.now.tag pool.now.sectors (pool.now.group + 1) closed.now.modes closed.now.quota kept.now roots pages) }
 {
     seal_of(
         alloc,
@@ -77,7 +69,7 @@ fn seal_after(
         pool.sealed + 1,
         &closed.modes,
         closed.quota,
-        table,
+        kept,
         pages,
     )
 }
@@ -89,51 +81,53 @@ fn slots_of(alloc: Global, pool: &Pool, closed: &Closed) -> Result<SlotList, All
     slots_after(alloc, &pool.slots, closed.slots.as_slice())
 }
 
-/// The chains of these slots and this table, at places that nothing uses; `None` where fewer sectors are
+/// The chains of these slots, this table and its logs, at places that nothing uses; `None` where fewer sectors are
 /// free than their pages need. The error is want of memory.
 fn chains_of(
     alloc: Global,
     pool: &Pool,
     closed: &Closed,
     slots: &[SlotRecord],
-    table: &PlainTable,
+    kept: &Kept,
 ) -> Result<Option<Vec<ChainPages>>, AllocError>
     requires ring { (sector : ℕ) → sector < 32 → slice_index_or pool.now.used sector true ≡ true }
-    requires lengths { HasKeyLengths table.now }
+    requires lengths { HasKeyLengths kept.now.table }
+    requires log_lengths { HaveKeyLengths kept.now.logs }
     ensures placed { IfOk result (λ found. IfSome found (λ parts.
-        ArePlaced pool.now.used (closed_of closed.now).contents (records_in slots.now table.now) parts.items)) }
+        ArePlaced pool.now.used (closed_of closed.now).contents (records_in slots.now kept.now) parts.items)) }
     ensures room { IfOk result (λ found. IfNone found
-        (LacksRoom pool.now.used (closed_of closed.now).contents (records_in slots.now table.now))) }
+        (LacksRoom pool.now.used (closed_of closed.now).contents (records_in slots.now kept.now))) }
 {
-    let lists = records_of(alloc, slots, table)?;
+    let lists = records_of(alloc, slots, kept)?;
     place_chains(alloc, &pool.used, closed.contents.as_slice(), lists)
 }
 
-/// The pool after the group, of these slots, this table, and pages in these sectors. The error is want of memory.
+/// The pool after the group, of these slots, this table and its logs, and pages in these sectors. The error is want of memory.
 fn next_of(
     alloc: Global,
     pool: &Pool,
     closed: &Closed,
     slots: SlotList,
-    table: PlainTable,
+    kept: Kept,
     pages: SectorList,
 ) -> Result<Pool, AllocError>
     requires enough { 32 ≤ pool.now.sectors }
     requires last { pool.now.group + 1 ≤ last_group }
     requires slots { AllByRecursion (λ slot. IsKeyLength slot.pointer.key.len) slots.items }
-    requires lengths { HasKeyLengths table }
-    ensures { IfOk result (λ next. IsMadeOf pool.now (closed_of closed.now) slots.items table pages.items next) }
+    requires lengths { HasKeyLengths kept.table }
+    ensures { IfOk result (λ next. IsMadeOf pool.now (closed_of closed.now) slots.items kept pages.items next) }
 {
     let used = used_after(
         alloc,
         pool.sectors,
         pages.as_slice(),
         slots.as_slice(),
-        &table,
+        &kept.table,
     )?;
     Ok(Pool {
         slots,
-        table,
+        table: kept.table,
+        logs: kept.logs,
         pages,
         used,
         modes: closed.modes,
@@ -156,12 +150,12 @@ pub fn plan_group(alloc: Global, pool: &Pool, closed: &Closed) -> Result<Option<
         (LacksRoom pool.now.used (closed_of closed.now).contents (records_after pool.now (closed_of closed.now)))) }
 {
     let slots = slots_of(alloc, pool, closed)?;
-    let table = table_of(alloc, pool, closed)?;
-    let Some(parts) = chains_of(alloc, pool, closed, slots.as_slice(), &table)? else {
+    let kept = kept_after(alloc, pool, closed.changes.as_slice())?;
+    let Some(parts) = chains_of(alloc, pool, closed, slots.as_slice(), &kept)? else {
         return Ok(None);
     };
     let pages = pages_of(alloc, parts.as_slice())?;
-    let seal = seal_after(alloc, pool, closed, &table, pages.len())?;
-    let next = next_of(alloc, pool, closed, slots, table, pages)?;
+    let seal = seal_after(alloc, pool, closed, &kept, pages.len())?;
+    let next = next_of(alloc, pool, closed, slots, kept, pages)?;
     Ok(Some(Plan { next, parts, seal }))
 }
