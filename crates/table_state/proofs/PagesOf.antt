@@ -113,11 +113,11 @@ pub listed_fewer : (table : TableState) (logs : Logs) → Replays table logs
 listed_fewer table logs is = (
   omega (arith, ap (λ (l : List Change). length l) is.active, length-fold changes_put logs.active []),
   omega (
-      arith,
-      ap (λ (l : List Change). length l) is.flush,
-      length-filter-le (λ change. is_left table.checkpoint (last_changes logs.active) (key_in change)) (last_changes logs.flushing),
-      length-fold changes_put logs.flushing [],
-    ),
+    arith,
+    ap (λ (l : List Change). length l) is.flush,
+    length-filter-le (λ change. is_left table.checkpoint (last_changes logs.active) (key_in change)) (last_changes logs.flushing),
+    length-fold changes_put logs.flushing [],
+  ),
 )
 
 -- ---- The table that is read

@@ -17,7 +17,7 @@ use Rattle.pool_model.specs.Pool.{Pool, Pointer, Pairwise}
 use Rattle.pool_model.specs.Mirrors.{Stored}
 use Rattle.pool_model.specs.Space.{is_used, used_sectors}
 use Rattle.pool_model.specs.Table.{TableState, found, waiting_in, IsTable}
-use Rattle.table_state.specs.Flat.{Flat, StandsFor, IsClear, IsWithin, IsChangeWithin, stands_before, pointer_of}
+use Rattle.table_state.specs.Flat.{Flat, StandsFor, IsClear, IsWithin, IsChangeWithin, stands_before, pointer_of, logs_in}
 use Rattle.table_state.specs.Holding.{Holds, WaitingStand}
 use Rattle.table_state.specs.Over.{StandsOver}
 use Rattle.table_state.specs.Pools.{Held, IsHeld, slots_after, pool_after, with_blocks}
@@ -26,26 +26,28 @@ use Rattle.table_state.specs.SlotRecords.{is_slot}
 use Rattle.table_state.specs.Spelling.{FitsSlot}
 use Rattle.table_state.specs.Sound.{IsSound, HasKeyLengths}
 use Rattle.table_state.specs.Sealed.{ChainPart, places_in, records_in, roots_of, seal_of, flat_of, CanBeKept, AreParts, CanStand, IsSealedImage}
-use Rattle.table_state.specs.Tables.{IsTableWithin}
+use Rattle.table_state.specs.Tables.{IsTableWithin, AreLogsWithin, HaveKeyLengths}
 use Rattle.table_state.specs.declared.slot_record.SlotRecord.{SlotRecord}
 use Rattle.table_state.proofs.SlotLaws.{is_slot-from}
 use Rattle.table_state.proofs.SlotsAfter.{rising_after, within_after, within_later}
 use Rattle.table_state.proofs.Stands.{sealed_stands, sealed_by, sealed_keeps}
-use Rattle.table_state.proofs.Syncing.{sync_within, sync_lengths}
+use Rattle.table_state.proofs.Syncing.{sync_within, sync_lengths, logs_sync_within, logs_sync_lengths}
 use Rattle.table_state.proofs.UsedLaws.{all_waiting, used_same}
 use Rattle.pool_model.proofs.Waiting.{waiting_has}
 use Rattle.pool_model.proofs.Syncing.{sync_keeps, sync_checkpoint}
-use Rattle.table_state.specs.Closing.{PlainClosed, CanSync, IsInRange, IsNamed, table_after, pool_with, standing_with}
+use Rattle.table_state.specs.Closing.{PlainClosed, CanSync, IsInRange, IsNamed, table_after, pool_with, standing_with, kept_of, kept_after}
 use Rattle.txg_sync.specs.Planning.{IsPlan}
 use Rattle.txg_sync.specs.Writing.{IsSealed, with_roots}
 use Rattle.txg_sync.proofs.Outcomes.{apart_from_unused}
+use Rattle.pool_model.specs.Logs.{Logs, LoggedTable, Replays}
+use Rattle.pool_model.proofs.Replays.{sync_replays}
 
--- the values of a table and of slots have a spelling
-pub record AreSpelt (slots : List SlotRecord) (table : TableState) : Type 0 where
+-- the values of slots, of a table and of its logs have a spelling
+pub record AreSpelt (slots : List SlotRecord) (kept : LoggedTable) : Type 0 where
   pub slots_fit : AllByRecursion FitsSlot slots
-  pub zap : AllByRecursion (λ entry. ChangeFits (changes.Entry entry)) table.zap
-  pub flush : AllByRecursion ChangeFits table.flush
-  pub active : AllByRecursion ChangeFits table.active
+  pub zap : AllByRecursion (λ entry. ChangeFits (changes.Entry entry)) kept.table.zap
+  pub active : AllByRecursion ChangeFits kept.logs.active
+  pub flushing : AllByRecursion ChangeFits kept.logs.flushing
 
 -- what is no block of the group and isn't used is no place that is named
 no_block_at : (contents : List Stored) (places : List ℕ) (at : ℕ)
@@ -77,22 +79,29 @@ default_true [] at e = refl
 default_true (b ∷ used) zero e = e
 default_true (b ∷ used) (suc at) e = default_true used at e
 
+abbrev pub kept_with : TableState → Logs → LoggedTable
+kept_with table logs = record { table = table; logs = logs }
+
+pub same_kept : (table table' : TableState) (logs logs' : Logs) → table ≡ table' → logs ≡ logs' → kept_with table logs ≡ kept_with table' logs'
+same_kept table table' logs logs' et el = cc
+
 -- a pool in memory that agrees with what an image stands for
 made_held : (c : Image) (next : Held) (pool : Pool) (table : TableState) (tag : ℕ) → next.tag ≡ tag → (state : StandsFor tag c pool table)
-    → next.slots ≡ state.flat.slots → next.pages ≡ state.flat.named → next.sectors ≡ state.seal.sectors
+    → next.slots ≡ state.flat.slots → next.logs ≡ logs_in state.flat → next.pages ≡ state.flat.named → next.sectors ≡ state.seal.sectors
     → next.table ≡ table → next.used ≡ used_sectors next.sectors next.pages pool table → next.modes ≡ pool.modes → next.quota ≡ pool.quota
     → next.group ≡ pool.group → IsHeld c next pool table
 made_held c next pool table tag same =
     subst
-    (λ t. (state : StandsFor t c pool table) → next.slots ≡ state.flat.slots → next.pages ≡ state.flat.named
-    → next.sectors ≡ state.seal.sectors
+    (λ t. (state : StandsFor t c pool table) → next.slots ≡ state.flat.slots → next.logs ≡ logs_in state.flat
+    → next.pages ≡ state.flat.named → next.sectors ≡ state.seal.sectors
     → next.table ≡ table → next.used ≡ used_sectors next.sectors next.pages pool table → next.modes ≡ pool.modes → next.quota ≡ pool.quota
     → next.group ≡ pool.group → IsHeld c next pool table)
     same
-    (λ state slots pages sectors tables used modes quota group. record {
+    (λ state slots logs pages sectors tables used modes quota group. record {
       stands = state;
       slots_are = slots;
       table_is = tables;
+      logs_are = logs;
       pages_are = pages;
       used_are = used;
       modes_are = modes;
@@ -109,6 +118,12 @@ module _ (held : Held) (closed : PlainClosed) (sound : IsSound held) (range : Is
   abbrev table' : TableState
   table' = table_after held closed
 
+  abbrev kept' : LoggedTable
+  kept' = kept_after held closed
+
+  kept_is : kept_of next ≡ kept'
+  kept_is = same_kept _ _ _ _ plan.is_next.table_is plan.is_next.logs_are
+
   within' : AllByRecursion (λ slot. is_slot held.sectors (held.group + 1) slot ≡ true) slots'
   within' =
       within_after held.sectors (held.group + 1) closed.slots held.slots range.slots
@@ -119,6 +134,16 @@ module _ (held : Held) (closed : PlainClosed) (sound : IsSound held) (range : Is
 
   lengths' : HasKeyLengths table'
   lengths' = sync_lengths closed.log held.table sound.lengths range.lengths
+
+  logs_within' : AreLogsWithin held.sectors (held.group + 1) kept'.logs
+  logs_within' =
+      logs_sync_within held.sectors held.group (held.group + 1) closed.log (kept_of held) (omega arith) sound.logs_within range.changes
+
+  log_lengths' : HaveKeyLengths kept'.logs
+  log_lengths' = logs_sync_lengths closed.log (kept_of held) sound.log_lengths range.lengths
+
+  replays' : Replays kept'.table kept'.logs
+  replays' = sync_replays closed.log held.table held.logs sound.replays
 
   sorted' : IsTable table'
   sorted' = sync_keeps closed.log held.table sound.sorted
@@ -154,6 +179,12 @@ module _ (held : Held) (closed : PlainClosed) (sound : IsSound held) (range : Is
         (rising_after closed.slots held.slots sound.slots_rising);
     sorted = subst IsTable (sym plan.is_next.table_is) sorted';
     lengths = subst HasKeyLengths (sym plan.is_next.table_is) lengths';
+    logs_within =
+        subst (AreLogsWithin next.sectors next.group) (sym plan.is_next.logs_are)
+        (subst (λ n. AreLogsWithin n next.group kept'.logs) (sym plan.is_next.sectors_are)
+        (subst (λ n. AreLogsWithin held.sectors n kept'.logs) (sym plan.is_next.group_is) logs_within'));
+    log_lengths = subst HaveKeyLengths (sym plan.is_next.logs_are) log_lengths';
+    replays = subst (λ (k : LoggedTable). Replays k.table k.logs) (sym kept_is) replays';
     counts = λ key home there.
         subst (λ (s : List SlotRecord). home.count ≤ length s) (sym plan.is_next.slots_are)
         (range.counts key home (ap (λ (t : TableState). found t key) (sym plan.is_next.table_is) ∙ there));
@@ -167,15 +198,15 @@ module _ (held : Held) (closed : PlainClosed) (sound : IsSound held) (range : Is
       any_ring false b c d e = absurd (cc e)
 
   module _ (image : Image) (there : held.sectors ≤ length image) (small : length image ≤ 2 ^ 64) (can : CanSync image held closed)
-      (spelt : AreSpelt next.slots next.table) where
+      (spelt : AreSpelt next.slots (kept_of next)) where
     abbrev pool' : Pool
     pool' = pool_with image held closed
 
-    spelt' : AreSpelt slots' table'
-    spelt' = subst (λ (t : TableState). AreSpelt slots' t) plan.is_next.table_is
-        (subst (λ (s : List SlotRecord). AreSpelt s next.table) plan.is_next.slots_are spelt)
+    spelt' : AreSpelt slots' kept'
+    spelt' = subst (AreSpelt slots') kept_is
+        (subst (λ (s : List SlotRecord). AreSpelt s (kept_of next)) plan.is_next.slots_are spelt)
 
-    can_keep : CanBeKept held.sectors (held.group + 1) slots' table'
+    can_keep : CanBeKept held.sectors (held.group + 1) slots' kept'
     can_keep = record {
       enough = sound.enough;
       few = sound.few;
@@ -185,20 +216,21 @@ module _ (held : Held) (closed : PlainClosed) (sound : IsSound held) (range : Is
       slots_rising = rising_after closed.slots held.slots sound.slots_rising;
       slots_fit = spelt'.slots_fit;
       sorted = sorted';
-      within = table_within';
+      replays = replays';
+      zap_within = table_within'.zap;
+      logs_within = logs_within';
       zap_fits = spelt'.zap;
-      flush_fits = spelt'.flush;
       active_fits = spelt'.active;
+      flushing_fits = spelt'.flushing;
       zap_lengths = lengths'.zap;
-      flush_lengths = lengths'.flush;
-      active_lengths = lengths'.active;
+      log_lengths = log_lengths';
       checkpoint = sync_checkpoint closed.log held.table;
     }
 
-    are_parts : AreParts held.sectors slots' table' parts
+    are_parts : AreParts held.sectors slots' kept' parts
     are_parts = record {
-      spelled = plan.placed.spelled ∙ ap (λ (s : List SlotRecord). records_in s next.table) plan.is_next.slots_are
-          ∙ ap (records_in slots') plan.is_next.table_is;
+      spelled = plan.placed.spelled ∙ ap (λ (s : List SlotRecord). records_in s (kept_of next)) plan.is_next.slots_are
+          ∙ ap (records_in slots') kept_is;
       pages = plan.placed.pages;
       places_open = open';
     }
@@ -238,13 +270,13 @@ module _ (held : Held) (closed : PlainClosed) (sound : IsSound held) (range : Is
 
     module _ (slot : ℕ) (c : Image) (sealed : IsSealed slot closed.contents parts (with_roots seal parts) image c) where
       rooted : with_roots seal parts
-          ≡ seal_of held.tag held.sectors (held.group + 1) closed.modes closed.quota table' (roots_of parts) (length (places_in parts))
+          ≡ seal_of held.tag held.sectors (held.group + 1) closed.modes closed.quota kept' (roots_of parts) (length (places_in parts))
       rooted =
           plan.seal_is (roots_of parts)
-          ∙ ap (λ (t : TableState). seal_of held.tag held.sectors (held.group + 1) closed.modes closed.quota t (roots_of parts)
-          (length (places_in parts))) plan.is_next.table_is
+          ∙ ap (λ (k : LoggedTable). seal_of held.tag held.sectors (held.group + 1) closed.modes closed.quota k (roots_of parts)
+          (length (places_in parts))) kept_is
 
-      is_image : IsSealedImage held.tag held.sectors (held.group + 1) image c slots' table' closed.modes closed.quota closed.contents parts
+      is_image : IsSealedImage held.tag held.sectors (held.group + 1) image c slots' kept' closed.modes closed.quota closed.contents parts
       is_image = record {
         counts = sealed.counts ∙ ap Some rooted;
         there = omega (arith, there, sealed.only.count);
@@ -263,20 +295,20 @@ module _ (held : Held) (closed : PlainClosed) (sound : IsSound held) (range : Is
       -- the image stands for the pool after the group
       pub stands_after : StandsFor held.tag c pool' table'
       stands_after =
-          sealed_stands held.tag held.sectors (held.group + 1) slots' table' closed.modes closed.quota can_keep image c closed.contents
+          sealed_stands held.tag held.sectors (held.group + 1) slots' kept' closed.modes closed.quota can_keep image c closed.contents
           parts are_parts can_stand size is_image
 
-      kept_flat : stands_after.flat ≡ flat_of slots' table' (places_in parts)
+      kept_flat : stands_after.flat ≡ flat_of slots' kept' (places_in parts)
       unfolding stands_after
       kept_flat =
-          sealed_keeps held.tag held.sectors (held.group + 1) slots' table' closed.modes closed.quota can_keep image c closed.contents parts
+          sealed_keeps held.tag held.sectors (held.group + 1) slots' kept' closed.modes closed.quota can_keep image c closed.contents parts
           are_parts can_stand size is_image
 
       kept_seal : stands_after.seal
-          ≡ seal_of held.tag held.sectors (held.group + 1) closed.modes closed.quota table' (roots_of parts) (length (places_in parts))
+          ≡ seal_of held.tag held.sectors (held.group + 1) closed.modes closed.quota kept' (roots_of parts) (length (places_in parts))
       unfolding stands_after
       kept_seal =
-          sealed_by held.tag held.sectors (held.group + 1) slots' table' closed.modes closed.quota can_keep image c closed.contents parts
+          sealed_by held.tag held.sectors (held.group + 1) slots' kept' closed.modes closed.quota can_keep image c closed.contents parts
           are_parts can_stand size is_image
 
       used' : next.used ≡ used_sectors next.sectors next.pages pool' table'
@@ -296,6 +328,7 @@ module _ (held : Held) (closed : PlainClosed) (sound : IsSound held) (range : Is
       held_after =
           made_held c next pool' table' held.tag plan.is_next.tag_is stands_after
           (plan.is_next.slots_are ∙ ap (λ (f : Flat). f.slots) (sym kept_flat))
+          (plan.is_next.logs_are ∙ ap logs_in (sym kept_flat))
           (plan.is_next.pages_are ∙ ap (λ (f : Flat). f.named) (sym kept_flat))
           (plan.is_next.sectors_are ∙ ap (λ (s : Seal). s.sectors) (sym kept_seal))
           plan.is_next.table_is used' plan.is_next.modes_are plan.is_next.quota_is plan.is_next.group_is
@@ -315,6 +348,7 @@ module _ (held : Held) (closed : PlainClosed) (sound : IsSound held) (range : Is
       pub holds_after : Holds held.tag c (standing_with image held closed (places_in parts))
       holds_after = record {
         state = stands_after;
+        logs = ap logs_in kept_flat;
         sectors = ap (λ (s : Seal). s.sectors) kept_seal;
         pages = ap (λ (f : Flat). f.named) kept_flat;
         waiting = waiting_stand;
@@ -324,6 +358,7 @@ module _ (held : Held) (closed : PlainClosed) (sound : IsSound held) (range : Is
       pub over_after : StandsOver c next (standing_with image held closed next.pages)
       over_after = record {
         is_held = held_after;
+        logs = plan.is_next.logs_are;
         sectors = plan.is_next.sectors_are;
         pages = refl;
         waiting = waiting_stand;

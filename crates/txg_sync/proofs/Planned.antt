@@ -11,25 +11,31 @@ use Rattle.table_state.specs.Pools.{Held, slots_after, pool_after}
 use Rattle.table_state.specs.Sealed.{ChainPart, places_in, records_in, seal_of}
 use Rattle.table_state.specs.SlotRecords.{is_slot}
 use Rattle.table_state.specs.Sound.{IsSound, HasKeyLengths}
-use Rattle.table_state.specs.Tables.{IsTableWithin}
+use Rattle.table_state.specs.Tables.{IsTableWithin, HaveKeyLengths}
 use Rattle.table_state.specs.declared.slot_record.SlotRecord.{SlotRecord}
 use Rattle.pool_model.proofs.Lists.{all_from}
 use Rattle.table_state.proofs.SlotLaws.{is_slot-from}
 use Rattle.table_state.proofs.SlotsAfter.{within_after, within_later}
-use Rattle.table_state.proofs.Syncing.{sync_within, sync_lengths}
+use Rattle.table_state.proofs.Syncing.{sync_within, sync_lengths, logs_sync_lengths}
 use Rattle.txg_sync.specs.Placing.{ArePlaced}
-use Rattle.table_state.specs.Closing.{PlainClosed, IsInRange}
+use Rattle.table_state.specs.Closing.{PlainClosed, IsInRange, kept_of}
 use Rattle.txg_sync.specs.Planning.{IsMadeOf, IsPlan}
+use Rattle.pool_model.specs.Logs.{LoggedTable, sync_logged}
 
 module _ (held : Held) (closed : PlainClosed) (sound : IsSound held) (range : IsInRange held closed) where
-  pub lengths_after : (table : TableState) → table ≡ sync_table closed.log held.table → HasKeyLengths table
-  lengths_after table is = subst HasKeyLengths (sym is) (sync_lengths closed.log held.table sound.lengths range.lengths)
+  pub lengths_after : (kept : LoggedTable) → kept ≡ sync_logged closed.log (kept_of held) → HasKeyLengths kept.table
+  lengths_after kept is =
+      subst (λ (k : LoggedTable). HasKeyLengths k.table) (sym is) (sync_lengths closed.log held.table sound.lengths range.lengths)
 
-  pub table_within_after : (table : TableState) → table ≡ sync_table closed.log held.table
-      → IsTableWithin held.sectors (held.group + 1) table
-  table_within_after table is =
-      subst (IsTableWithin held.sectors (held.group + 1)) (sym is)
+  pub table_within_after : (kept : LoggedTable) → kept ≡ sync_logged closed.log (kept_of held)
+      → IsTableWithin held.sectors (held.group + 1) kept.table
+  table_within_after kept is =
+      subst (λ (k : LoggedTable). IsTableWithin held.sectors (held.group + 1) k.table) (sym is)
       (sync_within held.sectors held.group (held.group + 1) closed.log held.table (omega arith) sound.within range.changes)
+
+  pub log_lengths_after : (kept : LoggedTable) → kept ≡ sync_logged closed.log (kept_of held) → HaveKeyLengths kept.logs
+  log_lengths_after kept is =
+      subst (λ (k : LoggedTable). HaveKeyLengths k.logs) (sym is) (logs_sync_lengths closed.log (kept_of held) sound.log_lengths range.lengths)
 
   pub slot_lengths_after : (slots : List SlotRecord) → slots ≡ slots_after closed.slots held.slots
       → AllByRecursion (λ slot. IsKeyLength slot.pointer.key.len) slots
@@ -42,26 +48,27 @@ module _ (held : Held) (closed : PlainClosed) (sound : IsSound held) (range : Is
       (within_later held.sectors held.group (held.group + 1) (omega arith) held.slots sound.slots_within)))
 
 -- so they make a plan
-pub is_plan : (held : Held) (closed : PlainClosed) (slots : List SlotRecord) (table : TableState) (parts : List ChainPart)
+pub is_plan : (held : Held) (closed : PlainClosed) (slots : List SlotRecord) (kept : LoggedTable) (parts : List ChainPart)
     (pages : List ℕ) (seal : Seal) (next : Held)
-    → slots ≡ slots_after closed.slots held.slots → table ≡ sync_table closed.log held.table → ArePlaced held.used closed.contents
-    (records_in slots table) parts → pages ≡ places_in parts
+    → slots ≡ slots_after closed.slots held.slots → kept ≡ sync_logged closed.log (kept_of held) → ArePlaced held.used closed.contents
+    (records_in slots kept) parts → pages ≡ places_in parts
     → ((roots : List PagePtr) → record seal { pointers = roots ++ null_pointer ∷ [] } ≡ seal_of held.tag held.sectors (held.group + 1)
-    closed.modes closed.quota table roots (length pages))
-    → IsMadeOf held closed slots table pages next → IsPlan held closed next parts seal
-is_plan held closed slots table parts pages seal next slots_are table_is placed pages_are seal_is made = record {
+    closed.modes closed.quota kept roots (length pages))
+    → IsMadeOf held closed slots kept pages next → IsPlan held closed next parts seal
+is_plan held closed slots kept parts pages seal next slots_are kept_is placed pages_are seal_is made = record {
   is_next = record {
     slots_are = made.slots_are ∙ slots_are;
-    table_is = made.table_is ∙ table_is;
+    table_is = ap (λ (k : LoggedTable). k.table) (made.kept_is ∙ kept_is);
+    logs_are = ap (λ (k : LoggedTable). k.logs) (made.kept_is ∙ kept_is);
     pages_are = made.pages_are ∙ pages_are;
     used_are =
         made.used_are closed.modes closed.quota (held.group + 1)
-        ∙ ap (λ (ps : List ℕ). used_sectors held.sectors ps (pool_after [] [] slots table closed.modes closed.quota (held.group + 1)) table)
+        ∙ ap (λ (ps : List ℕ). used_sectors held.sectors ps (pool_after [] [] slots kept.table closed.modes closed.quota (held.group + 1)) kept.table)
         pages_are
         ∙ ap (λ (s : List SlotRecord). used_sectors held.sectors (places_in parts)
-        (pool_after [] [] s table closed.modes closed.quota (held.group + 1)) table) (sym made.slots_are)
+        (pool_after [] [] s kept.table closed.modes closed.quota (held.group + 1)) kept.table) (sym made.slots_are)
         ∙ ap (λ (t : TableState). used_sectors held.sectors (places_in parts)
-        (pool_after [] [] next.slots t closed.modes closed.quota (held.group + 1)) t) (sym made.table_is);
+        (pool_after [] [] next.slots t closed.modes closed.quota (held.group + 1)) t) (sym (ap (λ (k : LoggedTable). k.table) made.kept_is));
     modes_are = made.modes_are;
     quota_is = made.quota_is;
     tag_is = made.tag_is;
@@ -69,11 +76,11 @@ is_plan held closed slots table parts pages seal next slots_are table_is placed 
     sectors_are = made.sectors_are;
   };
   placed =
-      subst (λ (s : List SlotRecord). ArePlaced held.used closed.contents (records_in s next.table) parts) (sym made.slots_are)
-      (subst (λ (t : TableState). ArePlaced held.used closed.contents (records_in slots t) parts) (sym made.table_is) placed);
+      subst (λ (s : List SlotRecord). ArePlaced held.used closed.contents (records_in s (kept_of next)) parts) (sym made.slots_are)
+      (subst (λ (k : LoggedTable). ArePlaced held.used closed.contents (records_in slots k) parts) (sym made.kept_is) placed);
   seal_is = λ roots.
       seal_is roots
-      ∙ ap (λ (ps : List ℕ). seal_of held.tag held.sectors (held.group + 1) closed.modes closed.quota table roots (length ps)) pages_are
-      ∙ ap (λ (t : TableState). seal_of held.tag held.sectors (held.group + 1) closed.modes closed.quota t roots (length (places_in parts)))
-      (sym made.table_is);
+      ∙ ap (λ (ps : List ℕ). seal_of held.tag held.sectors (held.group + 1) closed.modes closed.quota kept roots (length ps)) pages_are
+      ∙ ap (λ (k : LoggedTable). seal_of held.tag held.sectors (held.group + 1) closed.modes closed.quota k roots (length (places_in parts)))
+      (sym made.kept_is);
 }

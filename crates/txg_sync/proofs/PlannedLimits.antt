@@ -15,6 +15,8 @@ use Rattle.table_state.specs.Tables.{IsTableWithin, unique_in, duplicate_in, tab
 use Rattle.pool_model.proofs.Lists.{all_from, all_filter, fold_keeps, length-filter-le}
 use Rattle.pool_model.proofs.Sorted.{all_put, length-put}
 use Rattle.pool_model.proofs.TablePuts.{entries_put}
+use Rattle.pool_model.specs.Logs.{LoggedTable, Replays}
+use Rattle.table_state.proofs.PagesOf.{listed_fewer}
 
 module _ (sectors group : ℕ) where
   -- a change in range leaves homes in range
@@ -68,13 +70,15 @@ length-classes (entry ∷ zap) counted = by_count (length-classes zap counted.1)
         (cond (nat_lt 1 count) (entry ∷ duplicate_in zap) (duplicate_in zap))
     by_count rest count some = grind (arith, nat_tests)
 
--- the four lists of a table whose pages a disk holds are short
-pub few_found : (table : TableState) → IsTable table → table_pages table ≤ 1_000_000 → length (entries_found table) ≤ 2 ^ 40
-few_found table is fit =
-    in_all (length (entries_found table)) (length table.zap) (length table.flush) (length table.active) (length (unique_in table.zap))
-    (length (duplicate_in table.zap))
-    (length-found table) (length-classes table.zap is.zap_counted) fit
+-- the lists of a table are short where a disk holds the pages of its classes and of its logs
+pub few_found : (kept : LoggedTable) → IsTable kept.table → Replays kept.table kept.logs → table_pages kept ≤ 1_000_000
+    → length (entries_found kept.table) ≤ 2 ^ 40
+few_found kept is replays fit =
+    let fewer = listed_fewer kept.table kept.logs replays in
+    in_all (length (entries_found kept.table)) (length kept.table.zap) (length kept.logs.active) (length kept.logs.flushing)
+    (length (unique_in kept.table.zap)) (length (duplicate_in kept.table.zap))
+    (omega (arith, length-found kept.table, fewer.0, fewer.1)) (length-classes kept.table.zap is.zap_counted) fit
   where
-    in_all : (found zap flush active unique duplicate : ℕ) → found ≤ zap + flush + active → zap ≤ unique + duplicate
-        → pages_for unique + pages_for duplicate + pages_for active + pages_for flush ≤ 1_000_000 → found ≤ 2 ^ 40
-    in_all found zap flush active unique duplicate short classes fit = omega (arith, short, classes, fit)
+    in_all : (found zap active flushing unique duplicate : ℕ) → found ≤ zap + flushing + active → zap ≤ unique + duplicate
+        → pages_for unique + pages_for duplicate + pages_for active + pages_for flushing ≤ 1_000_000 → found ≤ 2 ^ 40
+    in_all found zap active flushing unique duplicate short classes fit = omega (arith, short, classes, fit)

@@ -27,13 +27,14 @@ use Rattle.table_state.specs.Sealed.{ChainPart, places_in, records_in}
 use Rattle.table_state.specs.declared.slot_record.SlotRecord.{SlotRecord}
 use Rattle.table_state.proofs.Held.{holds_over}
 use Rattle.table_state.proofs.Stands.{open_wider}
-use Rattle.table_state.specs.Closing.{pages_of, PlainClosed, CanSync, CanSyncOver, IsInRange, records_after}
+use Rattle.table_state.specs.Closing.{pages_of, PlainClosed, CanSync, CanSyncOver, IsInRange, records_after, kept_of}
 use Rattle.txg_sync.specs.Planning.{IsPlan}
 use Rattle.txg_sync.specs.Syncing.{KeepsNamed, BeforeGate, StopsAtGate, SyncLeaves, Syncs}
 use Rattle.txg_sync.specs.Writing.{group_places, with_roots, FollowsSeal, IsUnsealed, MayBeSealed, Seals, LeavesGate, TouchesOnly}
 use Rattle.txg_sync.proofs.PlacedParts.{places_as_pages}
 use Rattle.txg_sync.proofs.Outcomes.{holds_before_gate, not_written}
-use Rattle.txg_sync.proofs.Afterwards.{AreSpelt, holds_after, over_after}
+use Rattle.txg_sync.proofs.Afterwards.{AreSpelt, holds_after, over_after, same_kept}
+use Rattle.pool_model.specs.Logs.{Logs, LoggedTable}
 
 module _ (held : Held) (closed : PlainClosed) (sound : IsSound held) (next : Held) (parts : List ChainPart) (seal : Seal)
     (plan : IsPlan held closed next parts seal) where
@@ -81,7 +82,7 @@ module _ (held : Held) (closed : PlainClosed) (sound : IsSound held) (next : Hel
           → LeavesOnly old new (BeforeGate image held s)
       while_filling run = weakened (BeforeGate image held s) run before_gate
 
-  module _ (range : IsInRange held closed) (last : held.group + 1 ≤ last_group) (spelt : AreSpelt next.slots next.table) where
+  module _ (range : IsInRange held closed) (last : held.group + 1 ≤ last_group) (spelt : AreSpelt next.slots (kept_of next)) where
     -- the group was synced
     pub syncs_of : (sectors : ℕ) (old new : Option Image) → TellsImage sectors old → held.sectors ≤ sectors → sectors ≤ 2 ^ 64
         → CanSyncOver old held closed → Seals (slot_of seal.group) closed.contents parts (with_roots seal parts) old new → Syncs old held
@@ -145,8 +146,8 @@ pub pages_after : (held : Held) (closed : PlainClosed) (next : Held) (parts : Li
     → IsPlan held closed next parts seal → length next.pages ≡ pages_of (records_after held closed)
 pages_after held closed next parts seal plan =
     ap (λ (pages : List ℕ). length pages) plan.is_next.pages_are ∙ places_as_pages parts plan.placed.pages
-    ∙ ap pages_of (plan.placed.spelled ∙ ap (λ (slots : List SlotRecord). records_in slots next.table) plan.is_next.slots_are
-    ∙ ap (records_in (slots_after closed.slots held.slots)) plan.is_next.table_is)
+    ∙ ap pages_of (plan.placed.spelled ∙ ap (λ (slots : List SlotRecord). records_in slots (kept_of next)) plan.is_next.slots_are
+    ∙ ap (records_in (slots_after closed.slots held.slots)) (same_kept _ _ _ _ plan.is_next.table_is plan.is_next.logs_are))
 
 -- lists at hand are those of the plan
 module _ (seal : Seal) (blocks listed : List StoredBlock) (parts given : List ChainPart) (same_blocks : listed ≡ blocks)
@@ -176,13 +177,17 @@ module _ (seal : Seal) (blocks listed : List StoredBlock) (parts given : List Ch
       → Seals (slot_of seal.group) (map stored_of blocks) parts (with_roots seal parts) old new
   sealed_as_planned old new seals = as_planned (λ contents ps. Seals (slot_of seal.group) contents ps (with_roots seal ps) old new) seals
 
--- slots and a table at hand that have a spelling
-pub spelt_by : (next : Held) (slots : List SlotRecord) (table : TableState) → slots ≡ next.slots → table ≡ next.table
-    → AllByRecursion FitsSlot slots → AllByRecursion (λ entry. ChangeFits (changes.Entry entry)) table.zap
-    → AllByRecursion ChangeFits table.flush → AllByRecursion ChangeFits table.active → AreSpelt next.slots next.table
-spelt_by next slots table same_slots same_table fit zap flush active =
-    subst (λ (s : List SlotRecord). AreSpelt s next.table) same_slots
-    (subst (AreSpelt slots) same_table (record { slots_fit = fit; zap = zap; flush = flush; active = active }))
+-- slots, a table and its logs at hand that have a spelling
+pub spelt_by : (next : Held) (slots : List SlotRecord) (kept : LoggedTable) → slots ≡ next.slots → kept.table ≡ next.table
+    → kept.logs ≡ next.logs
+    → AllByRecursion FitsSlot slots → AllByRecursion (λ entry. ChangeFits (changes.Entry entry)) kept.table.zap
+    → AllByRecursion ChangeFits kept.logs.active → AllByRecursion ChangeFits kept.logs.flushing → AreSpelt next.slots (kept_of next)
+spelt_by next slots kept same_slots same_table same_logs fit zap active flushing = record {
+  slots_fit = subst (λ (s : List SlotRecord). AllByRecursion FitsSlot s) same_slots fit;
+  zap = subst (λ (t : TableState). AllByRecursion (λ entry. ChangeFits (changes.Entry entry)) t.zap) same_table zap;
+  active = subst (λ (l : Logs). AllByRecursion ChangeFits l.active) same_logs active;
+  flushing = subst (λ (l : Logs). AllByRecursion ChangeFits l.flushing) same_logs flushing;
+}
 
 -- where nothing was begun what stood stands, and some pages would have been as many
 pub nothing_begun : {D : DiskState} (image : Image) (held : Held) (closed : PlainClosed) (s : Standing) → IsDisk D

@@ -12,6 +12,11 @@ use Rattle.table_state.specs.Pools.{Held, slots_after, pool_after}
 use Rattle.table_state.specs.Sealed.{ChainPart, places_in, records_in, seal_of}
 use Rattle.pool_model.specs.Logs.{Logs, LoggedTable, appended, emptied, exchanged, logs_after}
 use Rattle.ddt_entry.specs.declared.entry.Change.{Change}
+use Rattle.txg_sync.specs.declared.kept.Kept.{Kept}
+
+-- a table and its logs at hand, as the definitions see them
+abbrev pub logged_of : Kept → LoggedTable
+logged_of kept = record { table = kept.table; logs = kept.logs }
 
 -- the logs after a sync with these changes that left this table: where they were swapped just now, its age is 0
 abbrev pub logs_by : (after : TableState) → List Change → Logs → Logs

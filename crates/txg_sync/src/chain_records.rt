@@ -4,6 +4,7 @@ ghost use Rattle.ddt_entry.specs.Spelling.{record_bytes, IsKeyLength};
 ghost use Rattle.table_state.specs.Sealed.{entry_bytes, records_in};
 ghost use Rattle.table_state.specs.Spelling.{slot_bytes};
 ghost use Rattle.table_state.specs.Tables.{unique_in, duplicate_in};
+ghost use Rattle.txg_sync.specs.Planning.{logged_of};
 
 use crate::kept::Kept;
 use ddt_entry::{Change, Entry, RECORD_BYTES, write_change};
@@ -21,16 +22,18 @@ pub fn records_of(
     requires zap { All (λ entry. IsKeyLength entry.key.len) kept.now.table.zap }
     requires active { All (λ change. IsKeyLength (key_in change).len) kept.now.logs.active }
     requires flushing { All (λ change. IsKeyLength (key_in change).len) kept.now.logs.flushing }
-    ensures { IfOk result (λ lists. map (λ list. list.items) lists.items ≡ records_in slots.now kept.now) }
+    ensures { IfOk result (λ lists. map (λ list. list.items) lists.items ≡ records_in slots.now (logged_of kept.now)) }
 {
-    let unique = unique_in(Vec::from_slice(alloc, kept.table.zap.as_slice())?);
-    let duplicate = duplicate_in(Vec::from_slice(alloc, kept.table.zap.as_slice())?);
+    let table = &kept.table;
+    let logs = &kept.logs;
+    let unique = unique_in(Vec::from_slice(alloc, table.zap.as_slice())?);
+    let duplicate = duplicate_in(Vec::from_slice(alloc, table.zap.as_slice())?);
     let mut lists = Vec::new(alloc);
     lists.push(slot_records(alloc, slots)?)?;
     lists.push(entry_records(alloc, unique.as_slice())?)?;
     lists.push(entry_records(alloc, duplicate.as_slice())?)?;
-    lists.push(change_records(alloc, kept.logs.active.as_slice())?)?;
-    lists.push(change_records(alloc, kept.logs.flushing.as_slice())?)?;
+    lists.push(change_records(alloc, logs.active.as_slice())?)?;
+    lists.push(change_records(alloc, logs.flushing.as_slice())?)?;
     Ok(lists)
 }
 

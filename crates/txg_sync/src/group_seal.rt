@@ -4,6 +4,7 @@ ghost use Rattle.page_tree.specs.declared.pointer.PagePtr.{PagePtr};
 ghost use Rattle.pool_model.specs.Table.{entries_found};
 ghost use Rattle.table_state.specs.Spelling.{mode_byte};
 ghost use Rattle.table_state.specs.Sealed.{flag_of, quota_number, checkpoint_len, checkpoint_digest, seal_of};
+ghost use Rattle.txg_sync.specs.Planning.{logged_of};
 
 use crate::kept::Kept;
 use ddt_entry::{Entry, Key};
@@ -28,10 +29,12 @@ pub fn seal_of(
     requires few { length (entries_found kept.now.table) ≤ 2 ^ 40 }
     requires counts { All (λ entry. entry.home.count ≤ 1048576) (entries_found kept.now.table) }
     ensures fields { IfOk result (λ seal. (roots : List PagePtr)
-        → record seal { pointers = roots ++ null_pointer ∷ [] } ≡ seal_of tag sectors group modes.now quota kept.now roots pages) }
+        → record seal { pointers = roots ++ null_pointer ∷ [] } ≡ seal_of tag sectors group modes.now quota (logged_of kept.now) roots pages) }
     ensures pointers { IfOk result (λ seal. seal.pointers ≡ replicate 6 null_pointer) }
 {
-    let homes = counted(kept.table.entries_found(alloc)?);
+    let table = &kept.table;
+    let logs = &kept.logs;
+    let homes = counted(table.entries_found(alloc)?);
     Ok(Seal {
         version: IMAGE_VERSION,
         tag: tag as u32,
@@ -40,12 +43,12 @@ pub fn seal_of(
         quota: quota_number(quota),
         quota_flag: quota_flag(quota),
         modes: mode_bytes(modes),
-        age: kept.table.age,
-        active_changes: kept.logs.active.len() as u64,
-        flushing_changes: kept.logs.flushing.len() as u64,
-        checkpoint_flag: checkpoint_flag(kept.table.checkpoint),
-        checkpoint_len: checkpoint_len(kept.table.checkpoint),
-        checkpoint_digest: checkpoint_digest(kept.table.checkpoint),
+        age: table.age,
+        active_changes: logs.active.len() as u64,
+        flushing_changes: logs.flushing.len() as u64,
+        checkpoint_flag: checkpoint_flag(table.checkpoint),
+        checkpoint_len: checkpoint_len(table.checkpoint),
+        checkpoint_digest: checkpoint_digest(table.checkpoint),
         pointers: [PagePtr::NULL; 6],
         homes: homes.len() as u64,
         counts: sum_of_counts(homes.as_slice()),

@@ -1,12 +1,12 @@
 ghost use Rattle.std.specs.Prelude.{◌≡◌, ◌==◌, ◌++◌, [], length, IfOk, if◌then◌else◌};
 ghost use Rattle.pool_model.specs.Logs.{sync_logged};
 ghost use Rattle.table_state.specs.Closing.{kept_of};
-ghost use Rattle.txg_sync.specs.Planning.{logs_by};
+ghost use Rattle.txg_sync.specs.Planning.{logged_of, logs_by};
 
 use ddt_entry::Change;
 use plain_table::PlainTable;
+use pool_model::Closed;
 use std::alloc::{AllocError, Global};
-use std::marker::Model;
 use table_state::{KeptLogs, Pool};
 
 /// A table with its logs.
@@ -18,21 +18,13 @@ pub struct Kept {
     pub logs: KeptLogs,
 }
 
-impl Model for Kept {
-    ghost use Rattle.pool_model.specs.Logs.{LoggedTable};
-
-    ghost Value = { LoggedTable };
-
-    ghost view = { λ kept. record { table = kept.table; logs = kept.logs } };
-}
-
-/// The table and its logs after a group with these changes. The error is want of memory.
-pub fn kept_after(alloc: Global, pool: &Pool, changes: &[Change]) -> Result<Kept, AllocError>
-    ensures { IfOk result (λ kept. kept ≡ sync_logged changes.now (kept_of pool.now)) }
+/// The table and its logs after a group. The error is want of memory.
+pub fn kept_after(alloc: Global, pool: &Pool, closed: &Closed) -> Result<Kept, AllocError>
+    ensures { IfOk result (λ kept. logged_of kept ≡ sync_logged closed.now.changes.items (kept_of pool.now)) }
 {
     let table = pool.table.copied(alloc)?;
-    let table = table.sync_table(alloc, changes)?;
-    let logs = logs_after(alloc, &pool.logs, changes, &table)?;
+    let table = table.sync_table(alloc, closed.changes.as_slice())?;
+    let logs = logs_after(alloc, &pool.logs, closed.changes.as_slice(), &table)?;
     Ok(Kept { table, logs })
 }
 

@@ -10,7 +10,7 @@ ghost use Rattle.table_state.specs.Sealed.{places_in, records_in, seal_of};
 ghost use Rattle.table_state.specs.Tables.{IsTableWithin, HaveKeyLengths};
 ghost use Rattle.table_state.specs.Sound.{IsSound, HasKeyLengths};
 ghost use Rattle.table_state.specs.Closing.{closed_of, IsInRange, records_after};
-ghost use Rattle.txg_sync.specs.Planning.{IsMadeOf, IsPlan};
+ghost use Rattle.txg_sync.specs.Planning.{logged_of, IsMadeOf, IsPlan};
 ghost use Rattle.txg_sync.specs.Placing.{ArePlaced, LacksRoom};
 
 use crate::chain_records::records_of;
@@ -60,7 +60,7 @@ fn seal_after(
     requires within { IsTableWithin pool.now.sectors (pool.now.group + 1) kept.now.table }
     requires few { length (entries_found kept.now.table) ≤ 2 ^ 40 }
     ensures { IfOk result (λ seal. (roots : List PagePtr) → record seal { pointers = roots ++ null_pointer ∷ [] }
-        ≡ seal_of pool.now.tag pool.now.sectors (pool.now.group + 1) closed.now.modes closed.now.quota kept.now roots pages) }
+        ≡ seal_of pool.now.tag pool.now.sectors (pool.now.group + 1) closed.now.modes closed.now.quota (logged_of kept.now) roots pages) }
 {
     seal_of(
         alloc,
@@ -94,9 +94,9 @@ fn chains_of(
     requires lengths { HasKeyLengths kept.now.table }
     requires log_lengths { HaveKeyLengths kept.now.logs }
     ensures placed { IfOk result (λ found. IfSome found (λ parts.
-        ArePlaced pool.now.used (closed_of closed.now).contents (records_in slots.now kept.now) parts.items)) }
+        ArePlaced pool.now.used (closed_of closed.now).contents (records_in slots.now (logged_of kept.now)) parts.items)) }
     ensures room { IfOk result (λ found. IfNone found
-        (LacksRoom pool.now.used (closed_of closed.now).contents (records_in slots.now kept.now))) }
+        (LacksRoom pool.now.used (closed_of closed.now).contents (records_in slots.now (logged_of kept.now)))) }
 {
     let lists = records_of(alloc, slots, kept)?;
     place_chains(alloc, &pool.used, closed.contents.as_slice(), lists)
@@ -115,7 +115,7 @@ fn next_of(
     requires last { pool.now.group + 1 ≤ last_group }
     requires slots { AllByRecursion (λ slot. IsKeyLength slot.pointer.key.len) slots.items }
     requires lengths { HasKeyLengths kept.table }
-    ensures { IfOk result (λ next. IsMadeOf pool.now (closed_of closed.now) slots.items kept pages.items next) }
+    ensures { IfOk result (λ next. IsMadeOf pool.now (closed_of closed.now) slots.items (logged_of kept) pages.items next) }
 {
     let used = used_after(
         alloc,
@@ -150,7 +150,7 @@ pub fn plan_group(alloc: Global, pool: &Pool, closed: &Closed) -> Result<Option<
         (LacksRoom pool.now.used (closed_of closed.now).contents (records_after pool.now (closed_of closed.now)))) }
 {
     let slots = slots_of(alloc, pool, closed)?;
-    let kept = kept_after(alloc, pool, closed.changes.as_slice())?;
+    let kept = kept_after(alloc, pool, closed)?;
     let Some(parts) = chains_of(alloc, pool, closed, slots.as_slice(), &kept)? else {
         return Ok(None);
     };

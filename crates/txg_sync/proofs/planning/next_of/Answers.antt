@@ -9,16 +9,16 @@ pub returns : goal.returns
 returns c =
     record {
       slots_are = refl;
-      table_is = refl;
+      kept_is = refl;
       pages_are = refl;
       used_are = λ modes quota group.
           c.in_ok-used.ensures modes quota group
           ∙ ap (λ (h : Held). used_sectors h.sectors c.as_slice.result.now
-          (pool_after [] [] c.as_slice-2.result.now c.args.table modes quota group) c.args.table) c.pool.view_is
+          (pool_after [] [] c.as_slice-2.result.now c.args.kept.table modes quota group) c.args.kept.table) c.pool.view_is
           ∙ ap (λ (ps : List ℕ). used_sectors c.args.pool.now.sectors ps
-          (pool_after [] [] c.as_slice-2.result.now c.args.table modes quota group) c.args.table) c.as_slice.ensures
+          (pool_after [] [] c.as_slice-2.result.now c.args.kept.table modes quota group) c.args.kept.table) c.as_slice.ensures
           ∙ ap (λ (s : List SlotRecord). used_sectors c.args.pool.now.sectors c.args.pages.items
-          (pool_after [] [] s c.args.table modes quota group) c.args.table) c.as_slice-2.ensures;
+          (pool_after [] [] s c.args.kept.table modes quota group) c.args.kept.table) c.as_slice-2.ensures;
       modes_are = refl;
       quota_is = refl;
       tag_is = ap (λ (h : Held). h.tag) c.pool.view_is;

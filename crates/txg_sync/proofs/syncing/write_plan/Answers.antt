@@ -53,9 +53,10 @@ returns-in-Err-clause-any_moment g c image s told pending over =
     let count : c.sectors-sectors.result ≡ sectors = c.sectors-sectors.ensures.count in
     let small : sectors < 2 ^ 64 = subst (λ n. n < 2 ^ 64) count c.sectors-sectors.type_inv in
     let tells = subst (λ n. TellsImage n (g.D.Disk.state c.args.disk.now).seen) count c.sectors-sectors.ensures.told in
-    let spelt = spelt_by c.args.planned.next c.as_slice.result.now c.next.inside.table
+    let spelt = spelt_by c.args.planned.next c.as_slice.result.now (record { table = c.next.inside.table; logs = c.next.inside.logs })
     (c.as_slice.ensures ∙ ap (λ (h : Held). h.slots) c.next.view_is) (ap (λ (h : Held). h.table) c.next.view_is)
-    c.slots_fit.ensures c.table_fits.ensures.zap c.table_fits.ensures.flush c.table_fits.ensures.active in
+    (ap (λ (h : Held). h.logs) c.next.view_is)
+    c.slots_fit.ensures c.table_fits.ensures c.logs_fit.ensures.active c.logs_fit.ensures.flushing in
     let is_image = subst (λ (o : Option Image). TellsImage sectors o) told tells in
     let can = subst (λ (o : Option Image). CanSyncOver o c.args.pool.now (closed_of c.args.closed.now)) told c.requires.over in
     let run = may_be_as_planned c.args.planned.seal c.args.closed.now.contents.items c.as_slice-2.result.now c.args.planned.parts.items
@@ -87,9 +88,10 @@ returns-in-Err-clause-at_the_gate g c fault =
     let count : c.sectors-sectors.result ≡ sectors = c.sectors-sectors.ensures.count in
     let small : sectors < 2 ^ 64 = subst (λ n. n < 2 ^ 64) count c.sectors-sectors.type_inv in
     let tells = subst (λ n. TellsImage n (g.D.Disk.state c.args.disk.now).seen) count c.sectors-sectors.ensures.told in
-    let spelt = spelt_by c.args.planned.next c.as_slice.result.now c.next.inside.table
+    let spelt = spelt_by c.args.planned.next c.as_slice.result.now (record { table = c.next.inside.table; logs = c.next.inside.logs })
     (c.as_slice.ensures ∙ ap (λ (h : Held). h.slots) c.next.view_is) (ap (λ (h : Held). h.table) c.next.view_is)
-    c.slots_fit.ensures c.table_fits.ensures.zap c.table_fits.ensures.flush c.table_fits.ensures.active in
+    (ap (λ (h : Held). h.logs) c.next.view_is)
+    c.slots_fit.ensures c.table_fits.ensures c.logs_fit.ensures.active c.logs_fit.ensures.flushing in
     let left = gate_as_planned c.args.planned.seal c.args.closed.now.contents.items c.as_slice-2.result.now c.args.planned.parts.items
     c.as_slice-3.result.now c.as_slice-2.ensures c.as_slice-3.ensures.value
     (g.D.Disk.state c.args.disk.now).seen (g.D.Disk.state c.seal_group-sealed.new.disk).seen
@@ -106,9 +108,10 @@ returns-clause-synced g c =
     let count : c.sectors-sectors.result ≡ sectors = c.sectors-sectors.ensures.count in
     let small : sectors < 2 ^ 64 = subst (λ n. n < 2 ^ 64) count c.sectors-sectors.type_inv in
     let tells = subst (λ n. TellsImage n (g.D.Disk.state c.args.disk.now).seen) count c.sectors-sectors.ensures.told in
-    let spelt = spelt_by c.args.planned.next c.as_slice.result.now c.next.inside.table
+    let spelt = spelt_by c.args.planned.next c.as_slice.result.now (record { table = c.next.inside.table; logs = c.next.inside.logs })
     (c.as_slice.ensures ∙ ap (λ (h : Held). h.slots) c.next.view_is) (ap (λ (h : Held). h.table) c.next.view_is)
-    c.slots_fit.ensures c.table_fits.ensures.zap c.table_fits.ensures.flush c.table_fits.ensures.active in
+    (ap (λ (h : Held). h.logs) c.next.view_is)
+    c.slots_fit.ensures c.table_fits.ensures c.logs_fit.ensures.active c.logs_fit.ensures.flushing in
     let seals = sealed_as_planned c.args.planned.seal c.args.closed.now.contents.items c.as_slice-2.result.now c.args.planned.parts.items
     c.as_slice-3.result.now c.as_slice-2.ensures c.as_slice-3.ensures.value
     (g.D.Disk.state c.args.disk.now).seen (g.D.Disk.state c.seal_group-sealed.new.disk).seen c.in_default.ensures.sealed in
@@ -139,9 +142,10 @@ returns-clause-any_moment g c image s told pending over =
     let count : c.sectors-sectors.result ≡ sectors = c.sectors-sectors.ensures.count in
     let small : sectors < 2 ^ 64 = subst (λ n. n < 2 ^ 64) count c.sectors-sectors.type_inv in
     let tells = subst (λ n. TellsImage n (g.D.Disk.state c.args.disk.now).seen) count c.sectors-sectors.ensures.told in
-    let spelt = spelt_by c.args.planned.next c.as_slice.result.now c.next.inside.table
+    let spelt = spelt_by c.args.planned.next c.as_slice.result.now (record { table = c.next.inside.table; logs = c.next.inside.logs })
     (c.as_slice.ensures ∙ ap (λ (h : Held). h.slots) c.next.view_is) (ap (λ (h : Held). h.table) c.next.view_is)
-    c.slots_fit.ensures c.table_fits.ensures.zap c.table_fits.ensures.flush c.table_fits.ensures.active in
+    (ap (λ (h : Held). h.logs) c.next.view_is)
+    c.slots_fit.ensures c.table_fits.ensures c.logs_fit.ensures.active c.logs_fit.ensures.flushing in
     let is_image = subst (λ (o : Option Image). TellsImage sectors o) told tells in
     let can = subst (λ (o : Option Image). CanSyncOver o c.args.pool.now (closed_of c.args.closed.now)) told c.requires.over in
     let run = may_be_as_planned c.args.planned.seal c.args.closed.now.contents.items c.as_slice-2.result.now c.args.planned.parts.items
