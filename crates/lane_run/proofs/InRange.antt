@@ -21,10 +21,11 @@ use Rattle.pool_model.proofs.Synced.{found-synced, there_stays}
 use Rattle.table_state.specs.Closing.{IsInRange}
 use Rattle.table_state.specs.Flat.{IsChangeWithin}
 use Rattle.table_state.specs.Pools.{Held}
-use Rattle.table_state.specs.Sound.{IsSound, HasLength}
+use Rattle.table_state.specs.Sound.{IsSound}
 use Rattle.lane_run.specs.Live.{Live, home_here, change_here, changes_here, group_here}
 use Rattle.lane_run.proofs.Ranges.{IsRanged, IsCounted, slots_now, slots_bound, table_counted, home_counted}
 use Rattle.lane_run.proofs.Stored.{found_has}
+use Rattle.table_state.specs.Tables.{HasLength}
 
 -- ---- The change of a key
 
