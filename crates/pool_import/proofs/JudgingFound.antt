@@ -1,22 +1,19 @@
 -- The homes that a table finds: each is what its search finds, and what holds of all that the table keeps holds of them.
-use Rattle.std.proofs.Common.{◌≡◌, Bool, true, false, cond, not, List, [], ◌∷◌, Option, Some, None, refl, sym, ap, subst, ◌∙◌}
-use Rattle.std.specs.Prelude.{fold, if◌then◌else◌}
+use Rattle.std.proofs.Common.{◌≡◌, Bool, true, false, cond, not, List, [], ◌∷◌, Some, refl, ap, subst, ◌∙◌}
+use Rattle.std.specs.Prelude.{fold}
 use Rattle.std.specs.List.{AllByRecursion, find}
 use Rattle.std.specs.Option.{option_map}
-use Rattle.std.specs.Ordering.{is_eq, is_lt}
-use Rattle.std.specs.declared.cmp.Ordering.TheVariants.{Less, Equal, Greater}
-use Rattle.std.proofs.lemmas.Bool.{false≢true}
+use Rattle.std.specs.Ordering.{is_lt}
 use Rattle.ddt_entry.specs.Keys.{key_cmp, key_eq}
-use Rattle.ddt_entry.specs.Changes.{key_in}
 use Rattle.ddt_entry.specs.declared.key.Key.{Key}
 use Rattle.ddt_entry.specs.declared.entry.Home.{Home}
 use Rattle.ddt_entry.specs.declared.entry.Entry.{Entry}
 use Rattle.ddt_entry.specs.declared.entry.Change.{Change}
 use Rattle.ddt_entry.specs.declared.entry.Change.TheVariants as changes
-use Rattle.ddt_entry.proofs.KeyLaws.{key_cmp_total, exact_keys, is_eq-key_cmp, key_eq-true, key_eq-same, key_eq-symm}
-use Rattle.pool_model.specs.Table.{TableState, home_in, entry_at, change_at, found_over, found, set_entry, drop_entry, set_found, entries_found, AreRising, AreChangesRising, IsTable}
-use Rattle.pool_model.proofs.Lists.{all_filter, all_from, all_from_both, pairs_filter}
-use Rattle.pool_model.proofs.Sorted.{less_of, all_put, rising_put}
+use Rattle.ddt_entry.proofs.KeyLaws.{key_cmp_total, key_eq-same}
+use Rattle.pool_model.specs.Table.{TableState, entry_at, set_entry, drop_entry, set_found, entries_found, AreRising}
+use Rattle.pool_model.proofs.Lists.{all_filter, all_from_both}
+use Rattle.pool_model.proofs.Sorted.{less_of, all_put}
 use Rattle.pool_model.proofs.TablePuts.{entries_put, apart_by_order}
 
 -- ---- Orders

@@ -17,8 +17,7 @@ use Rattle.pool_model.specs.Space.{used_sectors}
 use Rattle.table_state.specs.Flat.{Flat, HoldTogether, IsWithin, IsChangeWithin, IsClear, table_in, pool_in, pointer_of}
 use Rattle.table_state.specs.SealForms.{mode_in}
 use Rattle.table_state.specs.SlotRecords.{is_slot}
-use Rattle.table_state.specs.Sound.{HasLength}
-use Rattle.table_state.specs.Tables.{IsTableWithin}
+use Rattle.table_state.specs.Tables.{IsTableWithin, HasLength}
 use Rattle.table_state.specs.declared.slot_record.SlotRecord.{SlotRecord}
 use Rattle.table_state.proofs.UnusedOf.{each_fails}
 use Rattle.table_state.proofs.UsedLaws.{one_sector, used_is}

@@ -4,7 +4,8 @@ use Rattle.ddt_entry.specs.Spelling.{IsKeyLength}
 use Rattle.uber_ring.specs.declared.seal.Seal.{Seal}
 use Rattle.pool_model.specs.Logs.{last_changes}
 use Rattle.table_state.specs.Flat.{Flat, table_in}
-use Rattle.table_state.specs.Sound.{HasLength, HasKeyLengths}
+use Rattle.table_state.specs.Sound.{HasKeyLengths}
+use Rattle.table_state.specs.Tables.{HasLength}
 use Rattle.pool_model.proofs.Lists.{all_filter}
 use Rattle.pool_model.proofs.Sorted.{all_fold}
 use Rattle.pool_model.proofs.TablePuts.{entries_put, changes_put}

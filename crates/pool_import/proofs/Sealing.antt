@@ -47,6 +47,7 @@ is_held tag image seal held counts made_of =
           (record { formed = made_of.formed; read = made_of.read; together = made.together; whole = made.whole image });
       slots_are = refl;
       table_is = refl;
+      logs_are = refl;
       pages_are = refl;
       used_are = made.used_are image;
       modes_are = refl;

@@ -1,5 +1,5 @@
 -- The numbers of a pool in memory are in their ranges, whatever a disk tells.
-use Rattle.std.proofs.Common.{◌≡◌, ◌∙◌, ℕ, ◌≤◌, true, [], Some, length, sym, ap, subst, subst₂, arith}
+use Rattle.std.proofs.Common.{◌≡◌, ◌∙◌, ℕ, ◌≤◌, true, [], Some, length, refl, sym, ap, subst, subst₂, arith}
 use Rattle.std.specs.Prelude.{nat_le, slice_index_or}
 use Rattle.std.specs.List.{AllByRecursion}
 use Rattle.std.proofs.lemmas.Bool.{and_parts, leb-true}
@@ -65,6 +65,9 @@ sound_of tag disk_sectors seal flat held formed slots lengths made =
       sorted = is_table_in seal flat made.together;
       within = table_in_within seal flat made.together;
       lengths = key_lengths seal flat lengths;
+      logs_within = record { active = made.together.active_within; flushing = made.together.flushing_within };
+      log_lengths = record { active = lengths.active; flushing = lengths.flushing };
+      replays = record { active = refl; flush = refl };
       counts = counts_of;
     } in
     subst IsSound (sym made.held_is) sound

@@ -4,7 +4,7 @@ use Rattle.disk_model.specs.Images.{Image}
 use Rattle.uber_ring.specs.declared.seal.Seal.{Seal}
 use Rattle.pool_model.specs.Space.{used_sectors}
 use Rattle.table_state.specs.SealForms.{is_formed, modes_in, quota_in}
-use Rattle.table_state.specs.Flat.{Flat, IsRead, HoldTogether, table_in, pool_in}
+use Rattle.table_state.specs.Flat.{Flat, IsRead, HoldTogether, table_in, pool_in, logs_in}
 use Rattle.table_state.specs.Pools.{Held}
 use Rattle.pool_import.specs.Whole.{IsWhole}
 
@@ -20,6 +20,7 @@ abbrev pub held_of : (tag : ℕ) → Seal → Flat → (used : List Bool) → He
 held_of tag seal flat used = record {
   slots = flat.slots;
   table = table_in seal flat;
+  logs = logs_in flat;
   pages = flat.named;
   used = used;
   modes = modes_in seal;

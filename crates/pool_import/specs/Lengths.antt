@@ -2,7 +2,7 @@
 use Rattle.std.specs.List.{AllByRecursion}
 use Rattle.ddt_entry.specs.Spelling.{IsKeyLength}
 use Rattle.table_state.specs.Flat.{Flat}
-use Rattle.table_state.specs.Sound.{HasLength}
+use Rattle.table_state.specs.Tables.{HasLength}
 
 -- each of them is one that a key can have
 pub record HasLengths (flat : Flat) : Type 0 where

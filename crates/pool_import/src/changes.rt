@@ -4,7 +4,7 @@ ghost use Rattle.ddt_entry.specs.Records.{change_in};
 ghost use Rattle.ddt_entry.specs.Spelling.{IsKeyLength};
 ghost use Rattle.ddt_entry.specs.declared.entry.Change.TheVariants.{Entry as AnEntry};
 ghost use Rattle.page_tree.specs.declared.fault.PageFault.TheVariants.{Damaged, ReadFault};
-ghost use Rattle.table_state.specs.Sound.{HasLength};
+ghost use Rattle.table_state.specs.Tables.{HasLength};
 ghost use Rattle.pool_import.specs.Spelled.{spells_no_change, spells_no_entry};
 
 use ddt_entry::{Change, read_change};

@@ -9,7 +9,8 @@
 //!   `slots` and `changes`. A chain is damaged where a page isn't one or names a sector again, or where a
 //!   record spells nothing of what it should;
 //! - `made` makes the pool in memory, where the parts keep the rules that they keep together (`whole`), with
-//!   the table that they make (`tables`), and where the whole keeps its own (`judge`).
+//!   the table that they make (`tables`) and the logs as they were read, and where the whole keeps its own
+//!   (`judge`).
 //!
 //! `judge` looks at no content. It compares the seal's sums and each home's count with the slots that the
 //! table counts (`marks`, `judge_counts`, `judge_keys`), and sees that no page, no two blocks and no home

@@ -16,7 +16,7 @@ use grant_book::SectorSet;
 use plain_table::PlainTable;
 use pool_model::Mode;
 use std::alloc::{AllocError, Global};
-use table_state::{Pool, mode_of};
+use table_state::{KeptLogs, Pool, mode_of};
 use uber_ring::{Seal, seal_fits};
 
 /// The pool that a seal and its parts make, and `None` where they break a rule. The error is want of memory.
@@ -43,7 +43,7 @@ pub fn pool_of(
     Ok(Some(assembled(seal, tag, flat, table, used)))
 }
 
-/// The pool of these parts with this table.
+/// The pool of these parts with this table. It keeps the logs as they were read.
 fn assembled(seal: &Seal, tag: u8, flat: FlatImage, table: PlainTable, used: SectorSet) -> Pool
     requires { table ≡ table_in seal.now flat }
     ensures { result ≡ held_of tag seal.now flat used }
@@ -51,6 +51,10 @@ fn assembled(seal: &Seal, tag: u8, flat: FlatImage, table: PlainTable, used: Sec
     Pool {
         slots: flat.slots,
         table,
+        logs: KeptLogs {
+            active: flat.active.into_vec(),
+            flushing: flat.flushing.into_vec(),
+        },
         pages: flat.named,
         used,
         modes: modes_of(seal),

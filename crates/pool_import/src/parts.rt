@@ -7,7 +7,7 @@ ghost use Rattle.ddt_entry.specs.declared.entry.Change.{Change as AChange};
 ghost use Rattle.page_tree.specs.declared.fault.PageFault.TheVariants.{Damaged, ReadFault};
 ghost use Rattle.table_state.specs.declared.slot_record.SlotRecord.{SlotRecord};
 ghost use Rattle.table_state.specs.SlotRecords.{is_slot};
-ghost use Rattle.table_state.specs.Sound.{HasLength};
+ghost use Rattle.table_state.specs.Tables.{HasLength};
 ghost use Rattle.pool_import.specs.Parts.{ReadsSlots, ReadsEntries, ReadsChanges, first_sector};
 
 use crate::changes::{changes_of, entries_of};
