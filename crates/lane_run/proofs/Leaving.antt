@@ -55,6 +55,7 @@ use Rattle.lane_run.specs.Live.{Live, sector_or, sector_here, first_mode, change
 use Rattle.lane_run.proofs.InRange.{own_from}
 use Rattle.lane_run.proofs.Openings.{table_sorted, home_within, waiting_run, waiting_used, waiting_is_used, homes_match, formed}
 use Rattle.lane_run.proofs.Openings.{matches_by_key}
+use Rattle.pool_model.specs.Logs.{logs_after}
 
 writes_alone : (tasks : List Task) (replies : List Reply) → AllByRecursion IsFirstWrite tasks
     → AllByRecursion (λ turn. IsWrite turn.task.act) (turns_from tasks replies)
@@ -235,6 +236,9 @@ module _ (key_of : List ℕ → Key) (image : Image) (held : Held) (s : Standing
 
   pub table_is : table_after held (group_here held live) ≡ sync_table (changes_of opening course) s.table
   table_is = λ i. sync_table (log_is i) (over.is_held.table_is i)
+
+  pub logs_are : logs_after (group_here held live).log held.table held.logs ≡ logs_after (changes_of opening course) s.table s.logs
+  logs_are = λ i. logs_after (log_is i) (over.is_held.table_is i) (over.logs i)
 
   lens : AllByRecursion (λ p. 0 < p.key.len) after.pointers
   lens = all_from (IsPlaced held.used live.contents) (λ (p : Pointer). 0 < p.key.len) (λ p is. is.long) course.pool.pointers w.pointers

@@ -32,7 +32,7 @@ use Rattle.table_state.specs.Over.{StandsOver}
 use Rattle.lane_run.specs.Groups.{IsFirstWrite, HasNoClash, KeepsWaiting, IsRunFrom}
 use Rattle.lane_run.specs.Going.{IsCourse, Trusted, turns_from, first_course, HasRun, HasRunOver, Opens, lanes_here}
 use Rattle.lane_run.specs.Live.{Live, first_mode, group_here}
-use Rattle.lane_run.proofs.Leaving.{fresh_given, table_is, pool_stands, can_sync, keeps_waiting, stays_waiting}
+use Rattle.lane_run.proofs.Leaving.{fresh_given, table_is, pool_stands, can_sync, keeps_waiting, stays_waiting, logs_are}
 use Rattle.pool_model.specs.Waiting.{WaitingStays}
 use Rattle.pool_model.proofs.Loops.{filter-none}
 
@@ -237,6 +237,9 @@ module _ (keying : Keying) (image : Image) (held : Held) (s : Standing) (over : 
     table_is =
         table_is keying.key_of image held s over moment tasks firsts (length tasks) places are_free live has.places_are w ∙ sym
         (ap (λ (x : Standing). x.table) as_sealed);
+    logs_are =
+        logs_are keying.key_of image held s over moment tasks firsts (length tasks) places are_free live has.places_are w ∙ sym
+        (ap (λ (x : Standing). x.logs) as_sealed);
     pool_is = λ clash.
         pool_stands keying.key_of image held s over moment tasks firsts (length tasks) places are_free live has.places_are w
         (trusted_by (first_mode held.modes) keying.key_of s moment tasks (ap first_mode (sym over.is_held.modes_are)) firsts clash)

@@ -13,6 +13,7 @@ use Rattle.pool_model.specs.Run.{AnswersAsRun, noted_course, sealed_standing}
 use Rattle.pool_model.specs.Waiting.{WaitingStays}
 use Rattle.table_state.specs.Closing.{PlainClosed, CanSync, pool_with, table_after}
 use Rattle.table_state.specs.Pools.{Held}
+use Rattle.pool_model.specs.Logs.{logs_after}
 
 -- for now a group has writes of lane 0, each of a block of 1 to 4,096 bytes
 pub record IsFirstWrite (task : Task) : Type 0 where
@@ -32,13 +33,14 @@ KeepsWaiting image held after =
     × (take key.len (after.blocks home.place) ≡ take key.len (sector_at image home.place))
 
 -- the group was run from this standing: its note is the run's, its fresh places were free, what it leaves can be synced, and after that
--- sync the run's table stands, and, where no two contents clash, the run's pool, and no home begins to wait
+-- sync the run's table stands with its logs, and, where no two contents clash, the run's pool, and no home begins to wait
 pub record IsRunFrom (rules : Rules) (image : Image) (held : Held) (s : Standing) (moment : ℕ) (tasks : List Task) (told : Told)
     (closed : PlainClosed) : Type 0 where
   pub answers : AnswersAsRun rules s moment tasks told
   pub fresh : AreFresh (IsFree s) (noted_course rules s moment tasks told).given
   pub can_sync : CanSync image held closed
   pub table_is : table_after held closed ≡ (sealed_standing rules s (lanes moment tasks) told []).table
+  pub logs_are : logs_after closed.log held.table held.logs ≡ (sealed_standing rules s (lanes moment tasks) told []).logs
   pub pool_is : HasNoClash rules.keying.key_of s moment tasks
       → pool_with image held closed ≡ (sealed_standing rules s (lanes moment tasks) told []).pool
   pub waiting : KeepsWaiting image held (sealed_standing rules s (lanes moment tasks) told [])

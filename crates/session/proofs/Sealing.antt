@@ -38,21 +38,24 @@ use Rattle.session.specs.StageEntries.{StandsForTold}
 use Rattle.session.specs.StageGroups.{HasRunOver, GroupEnded, GroupCut, group_step}
 use Rattle.session.specs.Running.{is_write_fault}
 use Rattle.session.proofs.Over.{over_leaves}
+use Rattle.pool_model.specs.Logs.{logs_after}
 
 -- ---- What stands after a group
 
 -- what holds a standing holds one that differs in its blocks alone, where the homes that wait have theirs
-moved : (tag : ℕ) (c : Image) (a b : Standing) → a.pool ≡ b.pool → a.table ≡ b.table → a.sectors ≡ b.sectors → a.pages ≡ b.pages
-    → WaitingStand c b → Holds tag c a → Holds tag c b
-moved tag c a b pool table sectors pages waiting holds =
+moved : (tag : ℕ) (c : Image) (a b : Standing) → a.pool ≡ b.pool → a.table ≡ b.table → a.logs ≡ b.logs → a.sectors ≡ b.sectors
+    → a.pages ≡ b.pages → WaitingStand c b → Holds tag c a → Holds tag c b
+moved tag c a b pool table logs sectors pages waiting holds =
     let there : Holds tag c (record b { blocks = a.blocks }) =
-    subst (Holds tag c) (λ i. record { pool = pool i; table = table i; blocks = a.blocks; sectors = sectors i; pages = pages i }) holds in
-    record { state = there.state; sectors = there.sectors; pages = there.pages; waiting = waiting }
+    subst (Holds tag c)
+    (λ i. record { pool = pool i; table = table i; logs = logs i; blocks = a.blocks; sectors = sectors i; pages = pages i }) holds in
+    record { state = there.state; logs = there.logs; sectors = there.sectors; pages = there.pages; waiting = waiting }
 
-moved_over : (c : Image) (held : Held) (a b : Standing) → a.pool ≡ b.pool → a.table ≡ b.table → a.sectors ≡ b.sectors → a.pages ≡ b.pages
-    → WaitingStand c b → StandsOver c held a → StandsOver c held b
-moved_over c held a b pool table sectors pages waiting over = record {
+moved_over : (c : Image) (held : Held) (a b : Standing) → a.pool ≡ b.pool → a.table ≡ b.table → a.logs ≡ b.logs → a.sectors ≡ b.sectors
+    → a.pages ≡ b.pages → WaitingStand c b → StandsOver c held a → StandsOver c held b
+moved_over c held a b pool table logs sectors pages waiting over = record {
   is_held = subst (λ (t : TableState). IsHeld c held b.pool t) table (subst (λ (p : Pool). IsHeld c held p a.table) pool over.is_held);
+  logs = over.logs ∙ logs;
   sectors = over.sectors ∙ sectors;
   pages = over.pages ∙ pages;
   waiting = waiting;
@@ -134,7 +137,7 @@ module _ (keying : Keying) (old new : DiskState) (held : Held) (s : Standing) (m
   after_holds pages c only holds =
       subst (λ t. Holds t c (after pages)) ran.tag_is
       (moved held.tag c (standing_with ran.over.image held closed pages) (after pages)
-      (ran.run.pool_is ran.no_clash) ran.run.table_is stood.sectors refl
+      (ran.run.pool_is ran.no_clash) ran.run.table_is ran.run.logs_are stood.sectors refl
       (waits_later ran.over.image c held (after pages) ran.run.waiting only) holds)
 
   before_holds : (c : Image) → Holds held.tag c s → Holds keying.tag c s
@@ -160,8 +163,10 @@ module _ (keying : Keying) (old new : DiskState) (held : Held) (s : Standing) (m
     fresh = ran.run.fresh;
     pages = λ sealed.
         count ∙ sealed_pages ran.over.image held closed
-        ∙ ap (λ (p : Pool). image_pages p (table_after held closed)) (ran.run.pool_is ran.no_clash)
-        ∙ ap (λ (t : TableState). image_pages (after pages).pool t) ran.run.table_is;
+        ∙ ap (λ (p : Pool). image_pages p (table_after held closed) (logs_after closed.log held.table held.logs))
+        (ran.run.pool_is ran.no_clash)
+        ∙ ap (λ (t : TableState). image_pages (after pages).pool t (logs_after closed.log held.table held.logs)) ran.run.table_is
+        ∙ ap (image_pages (after pages).pool (after pages).table) ran.run.logs_are;
   }
 
   -- the group was sealed
@@ -183,7 +188,7 @@ module _ (keying : Keying) (old new : DiskState) (held : Held) (s : Standing) (m
           told = there.1;
           quiet = still;
           stands = moved_over there.0 next (standing_with ran.over.image held closed next.pages) (after pages)
-              (ran.run.pool_is ran.no_clash) ran.run.table_is stood.sectors (sym same)
+              (ran.run.pool_is ran.no_clash) ran.run.table_is ran.run.logs_are stood.sectors (sym same)
               (waits_later ran.over.image there.0 held (after pages) ran.run.waiting there.2.only) there.2.stands;
         };
         others = λ all among content apart. clash_kept keying s told pages moment tasks all among ran.run.waiting_stays content apart;
