@@ -23,11 +23,11 @@ bytes_at-after (p ∷ ps) blocks place =
     (cond b (Some p) (find (λ q. q.place == place) ps)))
     [ true ↦ refl | false ↦ bytes_at-after ps blocks place ]
 
--- standings agree where their pools and tables are the same, the bytes at each place, their sectors and their pages
-pub same_standing : (a b : Standing) → a.pool ≡ b.pool → a.table ≡ b.table → ((place : ℕ) → a.blocks place ≡ b.blocks place)
+-- standings agree where their pools, tables and logs are the same, the bytes at each place, their sectors and their pages
+pub same_standing : (a b : Standing) → a.pool ≡ b.pool → a.table ≡ b.table → a.logs ≡ b.logs → ((place : ℕ) → a.blocks place ≡ b.blocks place)
     → a.sectors ≡ b.sectors → a.pages ≡ b.pages → a ≡ b
-same_standing a b pool table blocks sectors pages =
-    λ i. record { pool = pool i; table = table i; blocks = λ place. blocks place i; sectors = sectors i; pages = pages i }
+same_standing a b pool table logs blocks sectors pages =
+    λ i. record { pool = pool i; table = table i; logs = logs i; blocks = λ place. blocks place i; sectors = sectors i; pages = pages i }
 
 -- courses agree where their openings, pools and commands are the same
 pub same_course : (o o' : Opening) (p p' : Pool) (commands commands' : List Command) (note : GroupNote)

@@ -4,5 +4,11 @@ use Rattle.plain_run.specs.Openings.{bytes_at}
 use Rattle.plain_run.specs.declared.standing.PlainStanding.{PlainStanding}
 
 abbrev pub standing_of : PlainStanding → Standing
-standing_of s =
-    record { pool = s.pool; table = s.table; blocks = bytes_at s.blocks.items; sectors = s.sectors; pages = s.pages.items }
+standing_of s = record {
+  pool = s.pool;
+  table = s.table;
+  logs = s.logs;
+  blocks = bytes_at s.blocks.items;
+  sectors = s.sectors;
+  pages = s.pages.items;
+}

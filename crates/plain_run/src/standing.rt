@@ -14,7 +14,7 @@ use crate::group::after_lanes;
 use crate::opening::{PlacedBlock, PlainOpening, copied_blocks, placed};
 use ddt_entry::KeyOf;
 use plain_pool::{PlainPointer, PlainPool};
-use plain_table::PlainTable;
+use plain_table::{KeptLogs, PlainTable, sync_logged};
 use pool_model::{GroupNote, LanesGroup, Mode, PruneRule};
 use std::alloc::{AllocError, Global};
 
@@ -24,6 +24,7 @@ use std::alloc::{AllocError, Global};
 pub struct PlainStanding {
     pub pool: PlainPool,
     pub table: PlainTable,
+    pub logs: KeptLogs,
     pub blocks: Vec<PlacedBlock>,
     pub sectors: u64,
     pub pages: Vec<u64>,
@@ -37,6 +38,7 @@ impl PlainStanding {
         PlainStanding {
             pool: PlainPool::new(alloc),
             table: PlainTable::new(alloc),
+            logs: KeptLogs::new(alloc),
             blocks: Vec::new(alloc),
             sectors,
             pages: Vec::new(alloc),
@@ -103,15 +105,18 @@ impl PlainStanding {
         let PlainStanding {
             pool,
             table,
+            logs,
             blocks,
             sectors,
             pages: _,
         } = self;
         let number = pool.group + 1;
         let changes = pool.prune_changes(alloc, rule, moment)?;
+        let after = sync_logged(alloc, &table, &logs, changes.as_slice())?;
         Ok(PlainStanding {
             pool: pool.after_prune(alloc, rule, moment)?.in_group(number),
-            table: table.sync_table(alloc, changes.as_slice())?,
+            table: after.table,
+            logs: after.logs,
             blocks,
             sectors,
             pages,
@@ -130,9 +135,11 @@ impl PlainStanding {
             standing_of next ≡ sealed_standing rules (standing_of self) (quota limit) told pages.items) }
     {
         let number = self.pool.group + 1;
+        let after = sync_logged(alloc, &self.table, &self.logs, &[])?;
         Ok(PlainStanding {
             pool: self.pool.with_quota(limit).in_group(number),
-            table: self.table.sync_table(alloc, &[])?,
+            table: after.table,
+            logs: after.logs,
             blocks: self.blocks,
             sectors: self.sectors,
             pages,
@@ -152,9 +159,11 @@ impl PlainStanding {
             standing_of next ≡ sealed_standing rules (standing_of self) (set_mode lane mode) told pages.items) }
     {
         let number = self.pool.group + 1;
+        let after = sync_logged(alloc, &self.table, &self.logs, &[])?;
         Ok(PlainStanding {
             pool: self.pool.with_mode(lane, mode).in_group(number),
-            table: self.table.sync_table(alloc, &[])?,
+            table: after.table,
+            logs: after.logs,
             blocks: self.blocks,
             sectors: self.sectors,
             pages,
@@ -187,10 +196,12 @@ impl PlainStanding {
             standing_of next ≡ after_lanes (opening_by key_of opening.now) (standing_of self) course pages.items) }
     {
         let changes = course.changes_of(alloc, opening)?;
+        let after = sync_logged(alloc, &self.table, &self.logs, changes.as_slice())?;
         let found = self.pool;
         Ok(PlainStanding {
             pool: course.pool.in_group(opening.number),
-            table: self.table.sync_table(alloc, changes.as_slice())?,
+            table: after.table,
+            logs: after.logs,
             blocks: blocks_after(alloc, found.pointers.as_slice(), self.blocks)?,
             sectors: self.sectors,
             pages,

@@ -1,1 +1,2 @@
+pub mod NextLogs
 pub mod Sets

@@ -1,47 +1,13 @@
-ghost use Rattle.std.specs.Prelude.{◌≡◌};
-ghost use Rattle.pool_model.specs.Logs.{empty_logs};
-
 use crate::slot_record::SlotRecord;
-use ddt_entry::Change;
 use grant_book::SectorSet;
 use page_tree::SectorList;
-use plain_table::PlainTable;
+use plain_table::{KeptLogs, PlainTable};
 use pool_model::Mode;
 use reserved_list::ReservedList;
-use std::alloc::Global;
 use std::marker::Model;
 
 /// Slots that hold a pointer.
 pub type SlotList = ReservedList<SlotRecord>;
-
-/// The changes that were appended to each of the two logs since it was last empty.
-#[derive(Drop)]
-pub struct KeptLogs {
-    /// The active log, which grows.
-    pub active: Vec<Change>,
-    /// The log that is being flushed. It is kept whole until nothing is left to flush.
-    pub flushing: Vec<Change>,
-}
-
-impl Model for KeptLogs {
-    ghost use Rattle.pool_model.specs.Logs.{Logs};
-
-    ghost Value = { Logs };
-
-    ghost view = { λ logs. record { active = logs.active.items; flushing = logs.flushing.items } };
-}
-
-impl KeptLogs {
-    /// Logs without changes. Takes no memory.
-    pub fn new(alloc: Global) -> KeptLogs
-        ensures { result ≡ empty_logs }
-    {
-        KeptLogs {
-            active: Vec::new(alloc),
-            flushing: Vec::new(alloc),
-        }
-    }
-}
 
 /// A pool in memory, as the newest sealed group left it.
 #[derive(Drop)]

@@ -6,7 +6,6 @@ pub mod Parts
 pub mod Filling
 pub mod Stored
 pub mod Groups
-pub mod NextLogs
 pub mod Outcomes
 pub mod Afterwards
 pub mod PlannedLimits

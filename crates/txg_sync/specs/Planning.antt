@@ -1,5 +1,5 @@
 -- What a sync is going to write, before anything is written: the pool after the group, its chains with their places, and the seal.
-use Rattle.std.specs.Prelude.{◌≡◌, ℕ, ◌+◌, List, [], ◌∷◌, ◌++◌, length, ◌==◌}
+use Rattle.std.specs.Prelude.{◌≡◌, ℕ, ◌+◌, List, [], ◌∷◌, ◌++◌, length}
 use Rattle.page_tree.specs.Pointers.{null_pointer}
 use Rattle.page_tree.specs.declared.pointer.PagePtr.{PagePtr}
 use Rattle.pool_model.specs.Space.{used_sectors}
@@ -10,17 +10,7 @@ use Rattle.txg_sync.specs.Placing.{ArePlaced, AreUsed}
 use Rattle.table_state.specs.Closing.{PlainClosed, kept_of}
 use Rattle.table_state.specs.Pools.{Held, slots_after, pool_after}
 use Rattle.table_state.specs.Sealed.{ChainPart, places_in, records_in, seal_of}
-use Rattle.pool_model.specs.Logs.{Logs, LoggedTable, appended, emptied, exchanged, logs_after}
-use Rattle.ddt_entry.specs.declared.entry.Change.{Change}
-use Rattle.txg_sync.specs.declared.kept.Kept.{Kept}
-
--- a table and its logs at hand, as the definitions see them
-abbrev pub logged_of : Kept → LoggedTable
-logged_of kept = record { table = kept.table; logs = kept.logs }
-
--- the logs after a sync with these changes that left this table: where they were swapped just now, its age is 0
-abbrev pub logs_by : (after : TableState) → List Change → Logs → Logs
-logs_by after changes logs = exchanged (after.age == 0) (emptied after.flush (appended changes logs))
+use Rattle.pool_model.specs.Logs.{LoggedTable, logs_after}
 
 -- the pool in memory after the group, whose image has these pages
 pub record IsNext (held : Held) (closed : PlainClosed) (pages : List ℕ) (next : Held) : Type 0 where

@@ -4,11 +4,11 @@ ghost use Rattle.ddt_entry.specs.Spelling.{record_bytes, IsKeyLength};
 ghost use Rattle.table_state.specs.Sealed.{entry_bytes, records_in};
 ghost use Rattle.table_state.specs.Spelling.{slot_bytes};
 ghost use Rattle.table_state.specs.Tables.{unique_in, duplicate_in};
-ghost use Rattle.txg_sync.specs.Planning.{logged_of};
+ghost use Rattle.plain_table.specs.Logged.{logged_of};
 
-use crate::kept::Kept;
 use ddt_entry::{Change, Entry, RECORD_BYTES, write_change};
 use page_tree::RecordList;
+use plain_table::LoggedPlainTable;
 use std::alloc::{AllocError, Global};
 use table_state::{SlotRecord, write_slot};
 
@@ -17,7 +17,7 @@ use table_state::{SlotRecord, write_slot};
 pub fn records_of(
     alloc: Global,
     slots: &[SlotRecord],
-    kept: &Kept,
+    kept: &LoggedPlainTable,
 ) -> Result<Vec<RecordList>, AllocError>
     requires zap { All (λ entry. IsKeyLength entry.key.len) kept.now.table.zap }
     requires active { All (λ change. IsKeyLength (key_in change).len) kept.now.logs.active }

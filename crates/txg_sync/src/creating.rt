@@ -17,10 +17,10 @@ use crate::syncing::told;
 use disk_model::{Disk, crash_laws};
 use grant_book::SectorSet;
 use page_tree::SectorList;
-use plain_table::PlainTable;
+use plain_table::{KeptLogs, PlainTable};
 use pool_model::{Mode, SyncFault};
 use std::alloc::{AllocError, Global};
-use table_state::{KeptLogs, Pool, SlotList};
+use table_state::{Pool, SlotList};
 
 /// The empty pool of group 1. The error is want of memory.
 fn new_pool(alloc: Global, tag: u8, sectors: u64) -> Result<Pool, AllocError>

@@ -7,8 +7,8 @@ ghost use Rattle.ddt_entry.specs.declared.entry.Change.TheVariants.{Entry as AnE
 ghost use Rattle.table_state.specs.Spelling.{FitsSlot};
 
 use ddt_entry::{Change, Entry, Home};
-use plain_table::PlainTable;
-use table_state::{KeptLogs, SlotRecord, key_fits, slot_fits};
+use plain_table::{KeptLogs, PlainTable};
+use table_state::{SlotRecord, key_fits, slot_fits};
 
 /// Slots that code has in hand fit.
 pub fn slots_fit(slots: &[SlotRecord])

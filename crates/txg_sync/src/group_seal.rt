@@ -4,11 +4,11 @@ ghost use Rattle.page_tree.specs.declared.pointer.PagePtr.{PagePtr};
 ghost use Rattle.pool_model.specs.Table.{entries_found};
 ghost use Rattle.table_state.specs.Spelling.{mode_byte};
 ghost use Rattle.table_state.specs.Sealed.{flag_of, quota_number, checkpoint_len, checkpoint_digest, seal_of};
-ghost use Rattle.txg_sync.specs.Planning.{logged_of};
+ghost use Rattle.plain_table.specs.Logged.{logged_of};
 
-use crate::kept::Kept;
 use ddt_entry::{Entry, Key};
 use page_tree::PagePtr;
+use plain_table::LoggedPlainTable;
 use pool_model::Mode;
 use std::alloc::{AllocError, Global};
 use table_state::{IMAGE_VERSION, byte_of};
@@ -23,7 +23,7 @@ pub fn seal_of(
     group: u64,
     modes: &[Mode; 16],
     quota: Option<u64>,
-    kept: &Kept,
+    kept: &LoggedPlainTable,
     pages: u64,
 ) -> Result<Seal, AllocError>
     requires few { length (entries_found kept.now.table) ≤ 2 ^ 40 }

@@ -9,18 +9,20 @@ ghost use Rattle.table_state.specs.Pools.{slots_after};
 ghost use Rattle.table_state.specs.Sealed.{places_in, records_in, seal_of};
 ghost use Rattle.table_state.specs.Tables.{IsTableWithin, HaveKeyLengths};
 ghost use Rattle.table_state.specs.Sound.{IsSound, HasKeyLengths};
-ghost use Rattle.table_state.specs.Closing.{closed_of, IsInRange, records_after};
-ghost use Rattle.txg_sync.specs.Planning.{logged_of, IsMadeOf, IsPlan};
+ghost use Rattle.table_state.specs.Closing.{closed_of, IsInRange, records_after, kept_of};
+ghost use Rattle.plain_table.specs.Logged.{logged_of};
+ghost use Rattle.txg_sync.specs.Planning.{IsMadeOf, IsPlan};
 ghost use Rattle.txg_sync.specs.Placing.{ArePlaced, LacksRoom};
+ghost use Rattle.pool_model.specs.Logs.{sync_logged};
 
 use crate::chain_records::records_of;
 use crate::group_seal::seal_of;
-use crate::kept::{Kept, kept_after};
 use crate::next_slots::slots_after;
 use crate::part::ChainPages;
 use crate::places::place_chains;
 use crate::used::used_after;
 use page_tree::SectorList;
+use plain_table::{LoggedPlainTable, sync_logged};
 use pool_model::Closed;
 use std::alloc::{AllocError, Global};
 use table_state::{Pool, SlotList, SlotRecord};
@@ -48,12 +50,23 @@ fn pages_of(alloc: Global, parts: &[ChainPages]) -> Result<SectorList, AllocErro
     Ok(SectorList::from_vec(pages))
 }
 
+/// The table and its logs after the group. The error is want of memory.
+fn kept_after(
+    alloc: Global,
+    pool: &Pool,
+    closed: &Closed,
+) -> Result<LoggedPlainTable, AllocError>
+    ensures { IfOk result (λ kept. logged_of kept ≡ sync_logged closed.now.changes.items (kept_of pool.now)) }
+{
+    sync_logged(alloc, &pool.table, &pool.logs, closed.changes.as_slice())
+}
+
 /// The seal of the group, of whose table few homes are found. The error is want of memory.
 fn seal_after(
     alloc: Global,
     pool: &Pool,
     closed: &Closed,
-    kept: &Kept,
+    kept: &LoggedPlainTable,
     pages: u64,
 ) -> Result<Seal, AllocError>
     requires last { pool.now.group + 1 ≤ last_group }
@@ -88,7 +101,7 @@ fn chains_of(
     pool: &Pool,
     closed: &Closed,
     slots: &[SlotRecord],
-    kept: &Kept,
+    kept: &LoggedPlainTable,
 ) -> Result<Option<Vec<ChainPages>>, AllocError>
     requires ring { (sector : ℕ) → sector < 32 → slice_index_or pool.now.used sector true ≡ true }
     requires lengths { HasKeyLengths kept.now.table }
@@ -108,7 +121,7 @@ fn next_of(
     pool: &Pool,
     closed: &Closed,
     slots: SlotList,
-    kept: Kept,
+    kept: LoggedPlainTable,
     pages: SectorList,
 ) -> Result<Pool, AllocError>
     requires enough { 32 ≤ pool.now.sectors }

@@ -7,7 +7,7 @@ use Rattle.txg_sync.specs.Placing.{ArePlaced}
 use Rattle.txg_sync.proofs.FewHomes.{few_homes}
 use Rattle.txg_sync.proofs.Planned.{lengths_after, table_within_after, slot_lengths_after, is_plan, log_lengths_after}
 use Rattle.txg_sync.proofs.planning.plan_group.Goals as goal
-use Rattle.txg_sync.specs.Planning.{logged_of}
+use Rattle.plain_table.specs.Logged.{logged_of}
 
 pub chains_of-requires-clause-lengths : goal.chains_of-requires-clause-lengths
 chains_of-requires-clause-lengths c =

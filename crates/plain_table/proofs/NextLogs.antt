@@ -5,7 +5,7 @@ use Rattle.std.proofs.lemmas.Bool.Decides.{nat_tests}
 use Rattle.ddt_entry.specs.declared.entry.Change.{Change}
 use Rattle.pool_model.specs.Table.{TableState, logged, flushed, flush_limit, is_due, aged, swapped, sync_table}
 use Rattle.pool_model.specs.Logs.{Logs, appended, emptied, exchanged, settled, logs_after}
-use Rattle.txg_sync.specs.Planning.{logs_by}
+use Rattle.plain_table.specs.Logged.{logs_by}
 
 older : (age : ℕ) → (min (age + 1) (2 ^ 64 - 1) == 0) ≡ false
 older age = grind (arith, nat_tests)
