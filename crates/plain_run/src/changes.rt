@@ -8,8 +8,7 @@ ghost use Rattle.plain_run.specs.Openings.{opening_by};
 use crate::course::PlainCourse;
 use crate::opening::{PlainOpening, home_of};
 use ddt_entry::{Change, Key};
-use home_rules::{change_from, settled};
-use plain_pool::with_key;
+use home_rules::{change_from, settled, with_key};
 use std::alloc::{AllocError, Global};
 
 impl PlainCourse {
