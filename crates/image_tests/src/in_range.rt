@@ -10,7 +10,7 @@ ghost use Rattle.table_state.specs.Flat.{IsWithin, IsChangeWithin};
 ghost use Rattle.table_state.specs.Sealed.{ChangesSlotWithin};
 ghost use Rattle.table_state.specs.SlotRecords.{is_slot};
 ghost use Rattle.table_state.specs.Spelling.{FitsSlot};
-ghost use Rattle.table_state.specs.Sound.{HasLength};
+ghost use Rattle.table_state.specs.Tables.{HasLength};
 ghost use Rattle.table_state.specs.Closing.{closed_of, IsInRange};
 ghost use Rattle.table_state.specs.Pools.{slots_after};
 ghost use Rattle.image_tests.specs.Counts.{LeavesAtMost};

@@ -174,12 +174,125 @@ fn assert_has_logs(rt: &impl Abort, pool: &Pool) {
     assert_same(rt, "the checkpoint", table.checkpoint, Some(key(1)));
 }
 
+/// Sees that the logs of a pool keep these changes.
+fn assert_keeps(rt: &impl Abort, pool: &Pool, active: &[Change], flushing: &[Change]) {
+    assert_same(rt, "kept", pool.logs.active.as_slice(), active);
+    assert_same(rt, "kept back", pool.logs.flushing.as_slice(), flushing);
+}
+
 #[test]
 fn a_flushing_log_is_left_past_its_checkpoint(rt: HostRuntime) -> Result<(), Fail> {
     let mut disk = small_disk(rt.alloc())?;
     let seal = of_a_flushing_log(&rt, &mut disk)?;
     let pool = imported(&rt, rt.alloc(), &mut disk, &seal)?;
     assert_has_logs(&rt, &pool);
+    let [first, second, third] = [1, 2, 3].map(|byte| Change::Gone(key(byte)));
+    assert_keeps(&rt, &pool, &[second], &[first, second, third]);
+    Ok(())
+}
+
+/// The seal of a pool in which two slots share a block. Its home was logged with one pointer, then with two.
+fn of_a_key_logged_twice(rt: &impl Abort, disk: &mut MemDisk) -> Result<Seal, Fail> {
+    let sharing = [slot_record(7, 1, 100), slot_record(8, 1, 100)];
+    let slots = put(rt, disk, &sharing, 50)?;
+    let (once, twice) = (entry_record(rt, 1, 100, 1), entry_record(rt, 1, 100, 2));
+    let active = put(rt, disk, &[once, gone_record(rt, 3), twice], 47)?;
+    let sums = Sums {
+        homes: 1,
+        counts: 2,
+        pages: 2,
+        active: 3,
+        flushing: 0,
+    };
+    Ok(seal_of([slots, NULL, NULL, active, NULL, NULL], sums))
+}
+
+/// Sees that a pool is that one, with the last home of the key.
+fn assert_has_last(rt: &impl Abort, pool: &Pool) {
+    let twice = entry(1, 100, 2);
+    let last = [Change::Entry(twice), Change::Gone(key(3))];
+    assert_same(rt, "active", pool.table.active.as_slice(), last.as_slice());
+    assert_same(rt, "flushing", pool.table.flush.len(), 0);
+    let found = pool.table.found(&key(1));
+    assert_same(rt, "the home", found, Some(twice.home));
+    assert_same(rt, "the used sectors", used_of(rt, &pool.used), (35, 100));
+}
+
+#[test]
+fn a_key_that_is_logged_twice_has_its_last_home(rt: HostRuntime) -> Result<(), Fail> {
+    let mut disk = small_disk(rt.alloc())?;
+    let seal = of_a_key_logged_twice(&rt, &mut disk)?;
+    let pool = imported(&rt, rt.alloc(), &mut disk, &seal)?;
+    assert_has_last(&rt, &pool);
+    let (once, twice) = (entry(1, 100, 1), entry(1, 100, 2));
+    let logged = [
+        Change::Entry(once),
+        Change::Gone(key(3)),
+        Change::Entry(twice),
+    ];
+    assert_keeps(&rt, &pool, logged.as_slice(), &[]);
+    Ok(())
+}
+
+/// The seal of a pool of which the flushing log was flushed up to the first key. It names the second key twice, and
+/// the active log the third: that one's home waits.
+fn of_a_key_flushing_twice(rt: &impl Abort, disk: &mut MemDisk) -> Result<Seal, Fail> {
+    let held = [(7, 1, 100), (8, 2, 101), (9, 2, 101)];
+    let slots = held.map(|(number, byte, place)| slot_record(number, byte, place));
+    let first = entry_record(rt, 1, 100, 1);
+    let (once, twice) = (entry_record(rt, 2, 101, 1), entry_record(rt, 2, 101, 2));
+    let flushing = [once, first, gone_record(rt, 3), twice];
+    let active = [entry_record(rt, 3, 102, 1), entry_record(rt, 3, 102, 0)];
+    let roots = [
+        put(rt, disk, &slots, 50)?,
+        put(rt, disk, &[first], 49)?,
+        NULL,
+        put(rt, disk, &active, 41)?,
+        put(rt, disk, &flushing, 40)?,
+        NULL,
+    ];
+    let sums = Sums {
+        homes: 2,
+        counts: 3,
+        pages: 4,
+        active: 2,
+        flushing: 4,
+    };
+    Ok(with_checkpoint(seal_of(roots, sums)))
+}
+
+/// Sees that a pool is that one, with the last home of each key.
+fn assert_has_left(rt: &impl Abort, pool: &Pool) {
+    let (twice, waiting) = (entry(2, 101, 2), entry(3, 102, 0));
+    let (active, flushing) = ([Change::Entry(waiting)], [Change::Entry(twice)]);
+    let table = &pool.table;
+    assert_same(rt, "active", table.active.as_slice(), active.as_slice());
+    assert_same(rt, "flushing", table.flush.as_slice(), flushing.as_slice());
+    let found = [1, 2, 3].map(|byte| table.found(&key(byte)));
+    let homes = [entry(1, 100, 1), twice, waiting].map(|entry| Some(entry.home));
+    assert_same(rt, "the homes", found, homes);
+    assert_same(rt, "the used sectors", used_of(rt, &pool.used), (39, 102));
+}
+
+/// Sees that its logs keep all that was appended, also what is flushed.
+fn assert_keeps_all(rt: &impl Abort, pool: &Pool) {
+    let active = [entry(3, 102, 1), entry(3, 102, 0)].map(|entry| Change::Entry(entry));
+    let flushing = [
+        Change::Entry(entry(2, 101, 1)),
+        Change::Entry(entry(1, 100, 1)),
+        Change::Gone(key(3)),
+        Change::Entry(entry(2, 101, 2)),
+    ];
+    assert_keeps(rt, pool, active.as_slice(), flushing.as_slice());
+}
+
+#[test]
+fn a_key_that_is_flushing_twice_has_its_last_home(rt: HostRuntime) -> Result<(), Fail> {
+    let mut disk = small_disk(rt.alloc())?;
+    let seal = of_a_key_flushing_twice(&rt, &mut disk)?;
+    let pool = imported(&rt, rt.alloc(), &mut disk, &seal)?;
+    assert_has_left(&rt, &pool);
+    assert_keeps_all(&rt, &pool);
     Ok(())
 }
 

@@ -1,5 +1,5 @@
 use Rattle.std.specs.List.{AllWithin}
-use Rattle.table_state.specs.Sound.{HasLength}
+use Rattle.table_state.specs.Tables.{HasLength}
 use Rattle.image_tests.proofs.in_range.have_lengths.Given as goal
 
 abbrev pub invariant-changes : goal.invariant-changes
