@@ -1,4 +1,4 @@
-ghost use Rattle.std.specs.Prelude.{◌≡◌, [], length, None, IfOk, IfErr, OnOk, OnErr};
+ghost use Rattle.std.specs.Prelude.{◌≡◌, ◌≤◌, [], length, None, IfOk, IfErr, OnOk, OnErr};
 ghost use Rattle.page_tree.specs.declared.fault.PageFault.TheVariants.{Memory};
 ghost use Rattle.log_object.specs.Logged.{with_change, with_checkpoint, cleared};
 
@@ -52,10 +52,12 @@ impl LogObject {
         reader: &mut P,
         change: &Change,
     ) -> Result<(), PageFault>
+        requires fits { P.fits reader.old disk.now }
         ensures appended { OnOk result (self.new ≡ with_change change.now self.old) }
         ensures refused { OnErr result (self.new ≡ self.old) }
         ensures cause { IfErr result (λ fault. fault ≡ Memory) }
-        ensures unread { reader.new ≡ reader.old }
+        ensures fits { P.fits reader.new disk.now }
+        ensures count { P.faults reader.old ≤ P.faults reader.new }
     {
         self.changes.reserve(1)?;
         self.changes.push(*change);
@@ -69,9 +71,11 @@ impl LogObject {
         disk: &D,
         reader: &mut P,
     ) -> Result<ChangeList, PageFault>
+        requires fits { P.fits reader.old disk.now }
         ensures listed { IfOk result (λ list. list.items ≡ self.now.changes) }
         ensures cause { IfErr result (λ fault. fault ≡ Memory) }
-        ensures unread { reader.new ≡ reader.old }
+        ensures fits { P.fits reader.new disk.now }
+        ensures count { P.faults reader.old ≤ P.faults reader.new }
     {
         let changes = Vec::from_slice(alloc, self.changes.as_slice())?;
         Ok(ChangeList::from_vec(changes))
@@ -84,10 +88,12 @@ impl LogObject {
         disk: &D,
         reader: &mut P,
     ) -> Result<(), PageFault>
+        requires fits { P.fits reader.old disk.now }
         ensures cleared { OnOk result (self.new ≡ cleared self.old) }
         ensures refused { OnErr result (self.new ≡ self.old) }
         ensures cause { IfErr result (λ fault. fault ≡ Memory) }
-        ensures unread { reader.new ≡ reader.old }
+        ensures fits { P.fits reader.new disk.now }
+        ensures count { P.faults reader.old ≤ P.faults reader.new }
     {
         self.changes = ChangeList::new(self.alloc);
         Ok(())

@@ -1,4 +1,4 @@
-ghost use Rattle.std.specs.Prelude.{◌≡◌, ◌<◌, [], length, slice_get, Some, IfOk, IfErr, OnOk, OnErr};
+ghost use Rattle.std.specs.Prelude.{◌≡◌, ◌≤◌, ◌<◌, [], length, slice_get, Some, IfOk, IfErr, OnOk, OnErr};
 ghost use Rattle.std.specs.Option.{option_copied};
 ghost use Rattle.std.specs.Map.Iter.{ShowsInOrder, deref};
 ghost use Rattle.ddt_entry.specs.declared.entry.Change.{Change as Changed};
@@ -45,9 +45,11 @@ impl LogPair {
         disk: &D,
         reader: &mut P,
     ) -> Result<LogPair, PageFault>
+        requires fits { P.fits reader.old disk.now }
         ensures replayed { IfOk result (λ pair. pair ≡ of_logs active flushing) }
         ensures cause { IfErr result (λ fault. fault ≡ Memory) }
-        ensures unread { reader.new ≡ reader.old }
+        ensures fits { P.fits reader.new disk.now }
+        ensures count { P.faults reader.old ≤ P.faults reader.new }
     {
         let changes = active.replay(alloc, disk, reader)?;
         let last = last_changes(alloc, changes.as_slice())?;
@@ -76,10 +78,12 @@ impl LogPair {
         reader: &mut P,
         change: Change,
     ) -> Result<(), PageFault>
+        requires fits { P.fits reader.old disk.now }
         ensures appended { OnOk result (self.new ≡ with_change change self.old) }
         ensures refused { OnErr result (self.new ≡ self.old) }
         ensures cause { IfErr result (λ fault. fault ≡ Memory) }
-        ensures unread { reader.new ≡ reader.old }
+        ensures fits { P.fits reader.new disk.now }
+        ensures count { P.faults reader.old ≤ P.faults reader.new }
     {
         let before = self.active.set(change)?;
         if let Err(fault) = self.active_log.append(disk, reader, &change) {
@@ -110,11 +114,13 @@ impl LogPair {
         disk: &D,
         reader: &mut P,
     ) -> Result<(), PageFault>
-        requires { self.old.flush ≡ [] }
+        requires flush { self.old.flush ≡ [] }
+        requires fits { P.fits reader.old disk.now }
         ensures emptied { OnOk result (self.new ≡ emptied_pair self.old) }
         ensures refused { OnErr result (self.new ≡ self.old) }
         ensures cause { IfErr result (λ fault. fault ≡ Memory) }
-        ensures unread { reader.new ≡ reader.old }
+        ensures fits { P.fits reader.new disk.now }
+        ensures count { P.faults reader.old ≤ P.faults reader.new }
     {
         self.flushing_log.clear(disk, reader)?;
         self.flushing_log.set_checkpoint(None);
