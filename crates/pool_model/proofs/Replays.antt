@@ -143,7 +143,7 @@ pub checkpoint_reached : (checkpoint : Option Key) (change : Change) (left : Lis
     → checkpoint_after (change ∷ left) (next ∷ rest) ≡ reached checkpoint (change ∷ left)
 checkpoint_reached checkpoint change left next rest = reached_last change left
 
-emptied-more : (change : Change) (rest : List Change) (logs : Logs) → emptied (change ∷ rest) logs ≡ logs
+pub emptied-more : (change : Change) (rest : List Change) (logs : Logs) → emptied (change ∷ rest) logs ≡ logs
 emptied-more change rest logs =
     let more : (length (change ∷ rest) == 0) ≡ false = grind (arith, nat_tests) in
     ap (λ (b : Bool). if b then record { active = logs.active; flushing = [] } else logs) more
@@ -152,7 +152,7 @@ emptied-active : (flush : List Change) (logs : Logs) → (emptied flush logs).ac
 emptied-active [] logs = refl
 emptied-active (change ∷ rest) logs = ap (λ (l : Logs). l.active) (emptied-more change rest logs)
 
-nothing_behind : (limit : ℕ) (flush : List Change) → 0 < limit → take limit flush ≡ [] → drop limit flush ≡ []
+pub nothing_behind : (limit : ℕ) (flush : List Change) → 0 < limit → take limit flush ≡ [] → drop limit flush ≡ []
 nothing_behind zero flush some none = absurd (omega (arith, some))
 nothing_behind (suc limit) [] some none = refl
 nothing_behind (suc limit) (change ∷ flush) some none = absurd (cc none)
