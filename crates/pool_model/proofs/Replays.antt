@@ -3,8 +3,10 @@
 use Rattle.std.proofs.Common.{◌≡◌, ℕ, zero, suc, ◌+◌, ◌<◌, Bool, true, false, cond, not, ◌&&◌, List, [], ◌∷◌, ◌++◌, length, filter, fold, take, drop, take-append-drop, append-nil, Option, Some, None, option_map, refl, sym, ap, subst, ◌∙◌, arith, ◌≤◌}
 use Rattle.std.specs.Prelude.{◌==◌, ◌/◌, if◌then◌else◌}
 use Rattle.std.specs.List.{AllByRecursion, last_or}
-use Rattle.std.specs.Ordering.{is_lt}
-use Rattle.std.proofs.lemmas.Bool.{and_parts}
+use Rattle.std.specs.Ordering.{is_eq, is_lt}
+use Rattle.std.specs.declared.cmp.Ordering.{Ordering}
+use Rattle.std.specs.declared.cmp.Ordering.TheVariants.{Less, Equal, Greater}
+use Rattle.std.proofs.lemmas.Bool.{and_parts, false≢true}
 use Rattle.std.proofs.lemmas.Bool.Decides.{nat_tests}
 use Rattle.std.proofs.lemmas.Cmp.{tied_itself}
 use Rattle.std.proofs.lemmas.List.{append_assoc, length-append}
@@ -14,10 +16,10 @@ use Rattle.ddt_entry.specs.Keys.{key_cmp, key_eq}
 use Rattle.ddt_entry.specs.Changes.{key_in}
 use Rattle.ddt_entry.specs.declared.key.Key.{Key}
 use Rattle.ddt_entry.specs.declared.entry.Change.{Change}
-use Rattle.ddt_entry.proofs.KeyLaws.{key_cmp_total, key_eq-symm}
+use Rattle.ddt_entry.proofs.KeyLaws.{key_cmp_total, exact_keys, key_eq-symm}
 use Rattle.pool_model.specs.Table.{TableState, change_at, set_change, drop_change, is_past, log_change, logged, checkpoint_after, flushed, flush_limit, is_due, aged, swapped, sync_table, AreChangesRising}
 use Rattle.pool_model.specs.Logs.{last_changes, is_missing, is_left, left_in, reached, Logs, replayed, appended, emptied, exchanged, logs_after, Replays}
-use Rattle.pool_model.proofs.Lists.{all_both, all_each, all_tested, filter_whole, pairs_filter}
+use Rattle.pool_model.proofs.Lists.{all_both, all_each, all_tested, filter_whole, pairs_filter, all_from, all_filter}
 use Rattle.pool_model.proofs.Sorted.{less_of, rising_fold}
 use Rattle.pool_model.proofs.TablePuts.{changes_put}
 use Rattle.pool_model.proofs.Finding.{change_at-set}
@@ -141,7 +143,7 @@ pub checkpoint_reached : (checkpoint : Option Key) (change : Change) (left : Lis
     → checkpoint_after (change ∷ left) (next ∷ rest) ≡ reached checkpoint (change ∷ left)
 checkpoint_reached checkpoint change left next rest = reached_last change left
 
-emptied-more : (change : Change) (rest : List Change) (logs : Logs) → emptied (change ∷ rest) logs ≡ logs
+pub emptied-more : (change : Change) (rest : List Change) (logs : Logs) → emptied (change ∷ rest) logs ≡ logs
 emptied-more change rest logs =
     let more : (length (change ∷ rest) == 0) ≡ false = grind (arith, nat_tests) in
     ap (λ (b : Bool). if b then record { active = logs.active; flushing = [] } else logs) more
@@ -150,7 +152,7 @@ emptied-active : (flush : List Change) (logs : Logs) → (emptied flush logs).ac
 emptied-active [] logs = refl
 emptied-active (change ∷ rest) logs = ap (λ (l : Logs). l.active) (emptied-more change rest logs)
 
-nothing_behind : (limit : ℕ) (flush : List Change) → 0 < limit → take limit flush ≡ [] → drop limit flush ≡ []
+pub nothing_behind : (limit : ℕ) (flush : List Change) → 0 < limit → take limit flush ≡ [] → drop limit flush ≡ []
 nothing_behind zero flush some none = absurd (omega (arith, some))
 nothing_behind (suc limit) [] some none = refl
 nothing_behind (suc limit) (change ∷ flush) some none = absurd (cc none)
@@ -171,7 +173,7 @@ flush_left checkpoint logs (change ∷ left) (next ∷ rest) some is =
 -- ---- The three steps of a sync
 
 -- a change of a group
-log_change_replays : (change : Change) (table : TableState) (logs : Logs) → Replays table logs
+pub log_change_replays : (change : Change) (table : TableState) (logs : Logs) → Replays table logs
     → Replays (log_change table change) (appended (change ∷ []) logs)
 log_change_replays change table logs is = record {
   active = ap (set_change change) is.active ∙ sym (last_changes-push change logs.active);
@@ -271,3 +273,69 @@ logs_each Q changes table logs each all =
         → IsEachLogged Q (if none then record { active = l.active; flushing = [] } else l)
     by_rest true l here = record { active = here.active; flushing = tt }
     by_rest false l here = here
+
+-- ---- A log that is read change by change
+
+set_first : (change : Change) (log : List Change) → AllByRecursion (ChangeBelow change) log → set_change change log ≡ change ∷ log
+set_first change [] below = refl
+set_first change (c ∷ log) below =
+    ap (λ o. if is_lt o then change ∷ c ∷ log else (if is_eq o then change ∷ log else c ∷ set_change change log))
+    (less_of (key_cmp (key_in change) (key_in c)) below.0)
+
+-- a change that is set between those that pass a test of their keys
+module _ (test : Key → Bool) (change : Change) where
+  abbrev passes : Change → Bool
+  passes c = test (key_in c)
+
+  passing_set : (log : List Change) → AreChangesRising log
+      → filter passes (set_change change log) ≡ cond (passes change) (set_change change (filter passes log)) (filter passes log)
+  passing_set [] rising = refl
+  passing_set (c ∷ log) rising = by_order (passing_set log rising.1) (key_cmp (key_in change) (key_in c)) refl
+    where
+      more : List Change
+      more = cond (passes c) (c ∷ filter passes log) (filter passes log)
+
+      put : Ordering → List Change
+      put o = if is_lt o then change ∷ c ∷ filter passes log
+          else (if is_eq o then change ∷ filter passes log else c ∷ set_change change (filter passes log))
+
+      tied : (b d : Bool) → b ≡ d → key_cmp (key_in change) (key_in c) ≡ Equal → cond b (change ∷ filter passes log) (filter passes log)
+          ≡ cond b (set_change change (cond d (c ∷ filter passes log) (filter passes log)))
+          (cond d (c ∷ filter passes log) (filter passes log))
+      tied true true same said = sym (ap put said)
+      tied true false same said = absurd (false≢true (sym same))
+      tied false true same said = absurd (false≢true same)
+      tied false false same said = refl
+
+      behind : (b d : Bool) → key_cmp (key_in change) (key_in c) ≡ Greater
+          → cond d (c ∷ cond b (set_change change (filter passes log)) (filter passes log))
+          (cond b (set_change change (filter passes log)) (filter passes log))
+          ≡ cond b (set_change change (cond d (c ∷ filter passes log) (filter passes log)))
+          (cond d (c ∷ filter passes log) (filter passes log))
+      behind true true said = sym (ap put said)
+      behind true false said = refl
+      behind false d said = refl
+
+      by_order : filter passes (set_change change log) ≡ cond (passes change) (set_change change (filter passes log)) (filter passes log)
+          → (o : Ordering) → key_cmp (key_in change) (key_in c) ≡ o
+          → filter passes (if is_lt o then change ∷ c ∷ log else (if is_eq o then change ∷ log else c ∷ set_change change log))
+          ≡ cond (passes change) (set_change change more) more
+      by_order rest Less said =
+          ap (λ (ys : List Change). cond (passes change) ys more)
+          (sym (set_first change more (all_filter (ChangeBelow change) passes (c ∷ log) (
+            ap is_lt said,
+            all_from (ChangeBelow c) (ChangeBelow change)
+                (λ x above. ap is_lt (key_cmp_total.trans (key_in change) (key_in c) (key_in x) said
+                (less_of (key_cmp (key_in c) (key_in x)) above))) log rising.0,
+          ))))
+      by_order rest Equal said = tied (passes change) (passes c) (ap test (exact_keys (key_in change) (key_in c) said)) said
+      by_order rest Greater said =
+          ap (λ (ys : List Change). cond (passes c) (c ∷ ys) ys) rest ∙ behind (passes change) (passes c) said
+
+-- what is left of a log with one change more
+pub left_in-push : (checkpoint : Option Key) (active log : List Change) (change : Change)
+    → left_in checkpoint active (log ++ change ∷ []) ≡ cond (is_left checkpoint active (key_in change))
+    (set_change change (left_in checkpoint active log)) (left_in checkpoint active log)
+left_in-push checkpoint active log change =
+    ap (λ (ys : List Change). filter (λ c. is_left checkpoint active (key_in c)) ys) (last_changes-push change log)
+    ∙ passing_set (is_left checkpoint active) change (last_changes log) (last_rising log)

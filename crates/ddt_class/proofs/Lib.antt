@@ -1,0 +1,4 @@
+pub mod Splits
+pub mod HomeLists
+pub mod Totals
+pub mod Classed

@@ -1,0 +1,2 @@
+pub mod HomeLists
+pub mod Classes

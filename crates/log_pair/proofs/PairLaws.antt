@@ -1,0 +1,51 @@
+-- The lists of a pair stay what its logs are replayed to.
+use Rattle.std.proofs.Common.{◌≡◌, ℕ, ◌+◌, ◌<◌, true, List, [], ◌∷◌, length, take, get_or, Option, None, refl, sym, ap, ◌∙◌}
+use Rattle.std.specs.Prelude.{if◌then◌else◌}
+use Rattle.std.proofs.lemmas.List.{take_more}
+use Rattle.ddt_entry.specs.Changes.{key_in}
+use Rattle.ddt_entry.specs.declared.key.Key.{Key}
+use Rattle.ddt_entry.specs.declared.entry.Change.{Change}
+use Rattle.pool_model.specs.Table.{set_change}
+use Rattle.pool_model.specs.Logs.{last_changes, is_left, left_in}
+use Rattle.pool_model.proofs.Lists.{all_each, filter_whole}
+use Rattle.pool_model.proofs.Replays.{log_change_replays, left_in-first, left_in-push}
+use Rattle.log_object.specs.Logged.{Logged, with_checkpoint}
+use Rattle.log_pair.specs.Paired.{Paired, pair_of, as_table, IsReplayed, with_change, flush_from}
+
+-- ---- What each call keeps
+
+pub with_change-replayed : (change : Change) (pair : Paired) → IsReplayed pair → IsReplayed (with_change change pair)
+with_change-replayed change pair is = log_change_replays change (as_table pair) pair.logs is
+
+-- the first change leaves the flushing list
+pub first-replayed : (pair : Paired) (change : Change) (rest : List Change) → pair.flush ≡ change ∷ rest → IsReplayed pair
+    → IsReplayed (flush_from pair (change ∷ rest))
+first-replayed pair change rest same is = record {
+  active = is.active;
+  flush = sym (left_in-first pair.checkpoint (last_changes pair.logs.active) pair.logs.flushing change rest (sym is.flush ∙ same));
+}
+
+-- the lists and the logs change places, where the flushing ones are empty
+pub exchanged-replayed : (active flush : List Change) (active_log flushing_log : Logged) → flush ≡ [] → flushing_log.changes ≡ []
+    → IsReplayed (pair_of active flush active_log flushing_log)
+    → IsReplayed (pair_of flush active flushing_log (with_checkpoint None active_log))
+exchanged-replayed active flush active_log flushing_log none emptied is = record {
+  active = none ∙ ap last_changes (sym emptied);
+  flush =
+      is.active
+      ∙ sym (filter_whole (λ c. is_left None [] (key_in c)) (last_changes active_log.changes)
+      (all_each (λ c. is_left None [] (key_in c) ≡ true) (λ c. refl) (last_changes active_log.changes)))
+      ∙ ap (λ (log : List Change). left_in None (last_changes log) active_log.changes) (sym emptied);
+}
+
+-- ---- What is left of a log, read change by change
+
+pub left_more : (checkpoint : Option Key) (active log : List Change) (i : ℕ) (d : Change) {left new : List Change} → i < length log
+    → left ≡ left_in checkpoint active (take i log)
+    → new ≡ (if is_left checkpoint active (key_in (get_or log i d)) then set_change (get_or log i d) left else left)
+    → new ≡ left_in checkpoint active (take (i + 1) log)
+left_more checkpoint active log i d {left} within so_far is =
+    is
+    ∙ ap (λ (ys : List Change). if is_left checkpoint active (key_in (get_or log i d)) then set_change (get_or log i d) ys else ys) so_far
+    ∙ sym (left_in-push checkpoint active (take i log) (get_or log i d))
+    ∙ ap (left_in checkpoint active) (sym (take_more log i d within))

@@ -1,0 +1,10 @@
+use Rattle.std.proofs.Common.{sym, subst}
+use Rattle.log_pair.specs.Keyed.{AreKeyed}
+use Rattle.log_pair.proofs.Entries.{is_removed, keyed_removed}
+use Rattle.log_pair.proofs.change_map.ChangeMap.remove.Goals as goal
+
+pub invariant_of-self : goal.invariant_of-self
+invariant_of-self c = subst AreKeyed (sym c.remove.ensures.entries) (keyed_removed c.args.key.now _ c.self.invariant)
+
+pub returns : goal.returns
+returns c = is_removed _ _ c.self.invariant c.self.view_is c.args.key.now _ c.len-len.ensures.ordered c.remove.ensures.entries
