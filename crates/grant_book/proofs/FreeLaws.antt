@@ -25,10 +25,10 @@ all_taken P (suc count) [] all = tt
 all_taken P (suc count) (x ∷ xs) all = (all.0, all_taken P count xs all.1)
 
 -- a sector that is free, where the notes are those from a first sector on
-record IsFreeFrom (first : ℕ) (used : List Bool) (sector : ℕ) : Type 0 where
-  from : first ≤ sector
-  within : sector < first + length used
-  free : (default : Bool) → slice_index_or used (sector - first) default ≡ false
+pub record IsFreeFrom (first : ℕ) (used : List Bool) (sector : ℕ) : Type 0 where
+  pub from : first ≤ sector
+  pub within : sector < first + length used
+  pub free : (default : Bool) → slice_index_or used (sector - first) default ≡ false
 
 -- a note in front of those that there are
 free_behind : (first : ℕ) (is_used : Bool) (used : List Bool) (sector : ℕ) → IsFreeFrom (first + 1) used sector
@@ -48,7 +48,7 @@ free_behind_all first is_used used [] all = tt
 free_behind_all first is_used used
     (sector ∷ sectors) all = (free_behind first is_used used sector all.0, free_behind_all first is_used used sectors all.1)
 
-free_from-free : (first : ℕ) (used : List Bool) → AllByRecursion (IsFreeFrom first used) (free_from first used)
+pub free_from-free : (first : ℕ) (used : List Bool) → AllByRecursion (IsFreeFrom first used) (free_from first used)
 free_from-free first [] = tt
 free_from-free first (true ∷ used) = free_behind_all first true used (free_from (first + 1) used) (free_from-free (first + 1) used)
 free_from-free first (false ∷ used) = (

@@ -1,2 +1,5 @@
 pub mod FreeLaws
 pub mod MarkLaws
+pub mod BookLaws
+pub mod LaneLaws
+pub mod GrantLaws

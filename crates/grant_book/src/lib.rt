@@ -5,12 +5,37 @@
 //! `with_ring` begins a set in which the ring is used, and `mark_all` uses more.
 //! `free_places` gives the first free sectors in rising order, as many as were wanted, or says that
 //! there are fewer. It marks none of them.
+//!
+//! A `GrantBook` is a set from which places are given out while groups run. `grant` gives the first free
+//! places, as a `Grant` that its holder takes them from one by one; they are used in the book at once,
+//! though nothing names them before the group is sealed. What wasn't taken goes back. A place that is
+//! released, since a group names it no more, is pending until `settle`, which a sync calls at its end: the
+//! newest sealed group may still name it until then, and nothing else is written there. So a sector is used,
+//! pending or free, and a place that is given out was free, is given out once, and isn't pending
+//! (`specs/Book.antt`). No call but `grant` takes memory; the set has brought the room to note what is pending.
+//!
+//! The number of free sectors is kept. A search goes on from where the last one ended, and begins anew only
+//! after `give_back` or `settle`: giving out n places takes a step for each, and one for each used sector that
+//! the search passes, once between two times that it begins anew. `settle` and `used_after` go over all
+//! sectors, any other call of the book takes the same time in every pool.
+//!
+//! `LaneSlots` has what the slots hold that a lane's commands name, while the lane runs. A look-up takes a time of
+//! the logarithm of their number.
 #![tactic(auto)]
 
 ghost use Rattle.std.specs.Prelude.{◌≡◌, ◌+◌, ◌<◌, ◌≤◌, ◌++◌, true, false, not, length, drop, replicate, slice_index_or, slice_set, IfOk};
 ghost use Rattle.std.specs.List.{count_by};
 ghost use Rattle.grant_book.specs.Sectors.{free_from, marked, ring_used, FindsFree};
+ghost use Rattle.grant_book.specs.Book.{kept};
 
+mod book;
+mod grant;
+mod lane_slots;
+
+pub use book::GrantBook;
+pub use ddt_entry::{Pointer, SlotKind};
+pub use grant::Grant;
+pub use lane_slots::{LaneSlots, SlotView};
 use reserved_list::ReservedList;
 use std::alloc::{AllocError, Global};
 use std::marker::Model;
@@ -22,23 +47,29 @@ pub type PlaceList = ReservedList<u64>;
 #[derive(Drop)]
 pub struct SectorSet {
     used: Vec<bool>,
+    /// Room in which a book notes what is pending.
+    room: Vec<bool>,
 }
 
 impl Model for SectorSet {
-    ghost use Rattle.std.specs.Prelude.{Bool, List};
+    ghost use Rattle.std.specs.Prelude.{◌≡◌, Bool, List, length};
 
     ghost Value = { List Bool };
 
     ghost view = { λ set. set.used.items };
+
+    ghost invariant = { λ set. length set.room.items ≡ length set.used.items };
 }
 
 impl SectorSet {
-    /// A pool of so many sectors, none of which is used.
+    /// A pool of so many sectors, none of which is used. The error is want of memory, also of that in which a
+    /// book notes what is pending.
     pub fn new(alloc: Global, sectors: u64) -> Result<Self, AllocError>
         ensures { IfOk result (λ set. set ≡ replicate sectors false) }
     {
         let used = vec![in alloc; false; sectors as usize]?;
-        Ok(SectorSet { used })
+        let room = vec![in alloc; false; sectors as usize]?;
+        Ok(SectorSet { used, room })
     }
 
     /// A pool of so many sectors, of which the ring's are used. The error is want of memory.
@@ -58,7 +89,8 @@ impl SectorSet {
         ensures { IfOk result (λ copy. copy ≡ self.now) }
     {
         let used = Vec::from_slice(alloc, self.used.as_slice())?;
-        Ok(SectorSet { used })
+        let room = Vec::from_slice(alloc, self.room.as_slice())?;
+        Ok(SectorSet { used, room })
     }
 
     /// How many sectors the pool has.
@@ -101,6 +133,32 @@ impl SectorSet {
         'sectors: for sector in sectors {
             self.mark(*sector);
         }
+    }
+
+    /// The notes of the sectors, and the room for as many more.
+    fn into_parts(self) -> (Vec<bool>, Vec<bool>)
+        ensures used { result.0.items ≡ self }
+        ensures room { length result.1.items ≡ length self }
+    {
+        (self.used, self.room)
+    }
+
+    /// Takes over which sectors are used in a book, without those that are pending there.
+    fn take_over(&mut self, used: &[bool], pending: &[bool])
+        requires used { length used.now ≡ length self.old }
+        requires pending { length pending.now ≡ length self.old }
+        ensures { self.new ≡ kept used.now pending.now }
+    {
+        self.copy_from(used);
+        book::drop_pending(&mut self.used, pending);
+    }
+
+    /// Takes over these notes.
+    fn copy_from(&mut self, used: &[bool])
+        requires { length used.now ≡ length self.old }
+        ensures { self.new ≡ used.now }
+    {
+        self.used.as_mut_slice().copy_from_slice(used);
     }
 
     /// How many sectors aren't used.
