@@ -1,10 +1,10 @@
-//! A seal's body as it is written, and sectors of a disk in memory.
+//! A seal's body as it is written, sectors of a disk in memory, and the slots of its ring.
 
 use disk_model::{Disk, Failed, MemDisk};
 use std::alloc::Global;
 use std::process::Abort;
 use std::test::Fail;
-use uber_ring::{Seal, write_body};
+use uber_ring::{Seal, close_slot, gate_open, open_slot, write_body};
 
 /// The body that a ring's writer writes for this seal.
 pub(crate) fn written_body(
@@ -18,7 +18,7 @@ pub(crate) fn written_body(
 }
 
 /// Writes a seal's body on a disk that has the ring.
-fn write_one<D: Disk>(rt: &impl Abort, disk: &mut D, seal: &Seal) -> Result<(), Failed> {
+pub(crate) fn write_one<D: Disk>(rt: &impl Abort, disk: &mut D, seal: &Seal) -> Result<(), Failed> {
     assert!(rt; disk.sectors() >= 32);
     write_body(disk, seal)
 }
@@ -47,4 +47,37 @@ pub(crate) fn read_back<D: Disk>(
     disk.retire(meter);
     read?;
     Ok(out)
+}
+
+/// Opens a slot of a disk that has the ring.
+pub(crate) fn open<D: Disk>(rt: &impl Abort, disk: &mut D, slot: u32) -> Result<(), Failed> {
+    assert!(rt; disk.sectors() >= 32);
+    assert!(rt; slot < 16);
+    open_slot(disk, slot)
+}
+
+/// Closes a slot of a disk that has the ring.
+pub(crate) fn close<D: Disk>(
+    rt: &impl Abort,
+    disk: &mut D,
+    slot: u32,
+    was_open: bool,
+) -> Result<(), Failed> {
+    assert!(rt; disk.sectors() >= 32);
+    assert!(rt; slot < 16);
+    close_slot(disk, slot, was_open)
+}
+
+/// Whether a slot's gate reads open.
+pub(crate) fn reads_open<D: Disk>(
+    rt: &impl Abort,
+    disk: &mut D,
+    slot: u32,
+) -> Result<bool, Failed> {
+    assert!(rt; disk.sectors() >= 32);
+    assert!(rt; slot < 16);
+    let mut meter = disk.meter()?;
+    let open = gate_open(disk, &mut meter, slot);
+    disk.retire(meter);
+    open
 }

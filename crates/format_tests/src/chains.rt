@@ -1,6 +1,8 @@
+use crate::bodies::put;
+use crate::comparing::{assert_same, assert_same_at};
 use disk_model::{Disk, Failed, MemDisk};
 use page_tree::{PageFault, PagePtr, RecordList, SectorList, read_chain, write_chain};
-use std::alloc::Global;
+use std::alloc::{AllocError, Global};
 use std::process::Abort;
 use std::test::Fail;
 
@@ -27,7 +29,13 @@ fn write<D: Disk>(
     write_chain(disk, records, places)
 }
 
-/// The first bytes of the records of a chain, with its sectors, where it is read.
+/// Writes the sixty records on two pages.
+fn write_sixty<D: Disk>(rt: &impl Abort, disk: &mut D) -> Result<PagePtr, Fail> {
+    let root = write(rt, disk, &sixty(), &[40, 33])?;
+    Ok(root.ok_or("a chain with records has a root")?)
+}
+
+/// The records of a chain, with its sectors, where it is read.
 fn read<D: Disk>(
     alloc: Global,
     disk: &mut D,
@@ -44,65 +52,126 @@ fn read<D: Disk>(
     Ok(out)
 }
 
-#[test]
-fn a_chain_is_read_back_from_its_root(rt: HostRuntime) -> Result<(), Fail> {
-    let alloc = rt.alloc();
-    let mut disk = MemDisk::new(alloc, 64)?;
-    let records = sixty();
-    let root = write(&rt, &mut disk, &records, &[40, 33])?;
-    let Some(first) = root else {
-        return Err("a chain with records has a root".into());
-    };
-    assert_eq!(rt; first.sector, 40);
-    let mut named = SectorList::new(alloc);
-    let out = read(alloc, &mut disk, &root, &mut named)?;
-    assert_eq!(rt; named.as_slice(), [40, 33].as_slice());
-    assert_eq!(rt; out.as_slice(), records.as_slice());
+/// Sees which records a chain has, and which sectors are named behind it.
+fn assert_chain(
+    rt: &impl Abort,
+    alloc: Global,
+    disk: &mut MemDisk,
+    root: &Option<PagePtr>,
+    named: &mut SectorList,
+    sectors: &[u64],
+    records: &[[u8; 72]],
+) -> Result<(), PageFault> {
+    let out = read(alloc, disk, root, named)?;
+    assert_same(rt, "the sectors", named.as_slice(), sectors);
+    assert_same(rt, "the records", out.as_slice(), records);
+    Ok(())
+}
 
-    assert!(rt; write(&rt, &mut disk, &[], &[])?.is_none());
-    let none = read(alloc, &mut disk, &None, &mut named)?;
-    assert!(rt; none.is_empty());
+/// Writes two chains, the second without records, and sees what is read of them.
+fn read_both(
+    rt: &impl Abort,
+    alloc: Global,
+    disk: &mut MemDisk,
+    named: &mut SectorList,
+) -> Result<(), Fail> {
+    let sectors = [40, 33];
+    let root = write_sixty(rt, disk)?;
+    assert_same(rt, "the root's sector", root.sector, 40);
+    assert_chain(rt, alloc, disk, &Some(root), named, &sectors, &sixty())?;
+    let none = write(rt, disk, &[], &[])?;
+    assert_same(rt, "the root of no records", none, None);
+    assert_chain(rt, alloc, disk, &None, named, &sectors, &[])?;
     Ok(())
 }
 
 #[test]
-fn a_chain_that_is_spoilt_is_damaged(rt: HostRuntime) -> Result<(), Fail> {
+fn a_chain_is_read_back_from_its_root(rt: HostRuntime) -> Result<(), Fail> {
     let alloc = rt.alloc();
     let mut disk = MemDisk::new(alloc, 64)?;
-    let root = write(&rt, &mut disk, &sixty(), &[40, 33])?;
+    let mut named = SectorList::new(alloc);
+    read_both(&rt, alloc, &mut disk, &mut named)
+}
 
-    // A sector that is named already, one in the ring, one past the disk, one that holds something else.
+/// Why a chain is not read, where this sector is named already.
+fn fault_beside(
+    alloc: Global,
+    disk: &mut MemDisk,
+    root: PagePtr,
+    sector: u64,
+) -> Result<Option<PageFault>, AllocError> {
     let mut named = SectorList::new(alloc);
     named.reserve(1)?;
-    named.push(33);
-    assert_eq!(rt;
-        read(alloc, &mut disk, &root, &mut named).err(),
-        Some(PageFault::Damaged(33))
-    );
-    let Some(first) = root else {
-        return Err("the chain has a root".into());
-    };
-    let digest = first.digest;
-    for sector in [31, 64, 50] {
-        let elsewhere = Some(PagePtr { sector, digest });
-        let mut none = SectorList::new(alloc);
-        let answer = read(alloc, &mut disk, &elsewhere, &mut none).err();
-        assert_eq!(rt; answer, Some(PageFault::Damaged(sector)), "at {sector}");
-    }
+    named.push(sector);
+    Ok(read(alloc, disk, &Some(root), &mut named).err())
+}
 
-    // The second page is written over, and then the second read fails.
-    assert!(rt; disk.sectors() == 64);
-    disk.write(33, &[0; 4096])?;
-    let mut none = SectorList::new(alloc);
-    assert_eq!(rt;
-        read(alloc, &mut disk, &root, &mut none).err(),
-        Some(PageFault::Damaged(33))
-    );
-    disk.fail_reads(6, 2, 2);
-    let mut none = SectorList::new(alloc);
-    assert_eq!(rt;
-        read(alloc, &mut disk, &root, &mut none).err(),
-        Some(PageFault::ReadFault)
-    );
+/// Why a chain is not read.
+fn fault_of(alloc: Global, disk: &mut MemDisk, root: PagePtr) -> Option<PageFault> {
+    let mut named = SectorList::new(alloc);
+    read(alloc, disk, &Some(root), &mut named).err()
+}
+
+/// Sees that a chain is damaged whose second sector is named already.
+fn name_twice(rt: &impl Abort, alloc: Global, disk: &mut MemDisk) -> Result<(), Fail> {
+    let root = write_sixty(rt, disk)?;
+    let fault = fault_beside(alloc, disk, root, 33)?;
+    let damage = Some(PageFault::Damaged(33));
+    assert_same(rt, "what is told", fault, damage);
     Ok(())
+}
+
+#[test]
+fn a_chain_with_a_sector_that_is_named_already_is_damaged(rt: HostRuntime) -> Result<(), Fail> {
+    let mut disk = MemDisk::new(rt.alloc(), 64)?;
+    name_twice(&rt, rt.alloc(), &mut disk)
+}
+
+/// Sees that a chain is damaged whose root names this sector in place of its own.
+fn assert_elsewhere(
+    rt: &impl Abort,
+    alloc: Global,
+    disk: &mut MemDisk,
+    root: PagePtr,
+    sector: u64,
+) {
+    let digest = root.digest;
+    let fault = fault_of(alloc, disk, PagePtr { sector, digest });
+    let damage = Some(PageFault::Damaged(sector));
+    assert_same_at(rt, "what is told of sector", sector, fault, damage);
+}
+
+/// Sees so of a sector in the ring, of one past the disk, and of one that holds something else.
+fn look_elsewhere(rt: &impl Abort, alloc: Global, disk: &mut MemDisk) -> Result<(), Fail> {
+    let root = write_sixty(rt, disk)?;
+    for sector in [31, 64, 50] {
+        assert_elsewhere(rt, alloc, disk, root, sector);
+    }
+    Ok(())
+}
+
+#[test]
+fn a_chain_that_does_not_begin_at_its_root_is_damaged(rt: HostRuntime) -> Result<(), Fail> {
+    let mut disk = MemDisk::new(rt.alloc(), 64)?;
+    look_elsewhere(&rt, rt.alloc(), &mut disk)
+}
+
+/// Writes the second page over, and then fails the second read of the second meter from then on.
+fn spoil(rt: &impl Abort, alloc: Global, disk: &mut MemDisk) -> Result<(), Fail> {
+    let root = write_sixty(rt, disk)?;
+    put(rt, disk, 33, &[0; 4096])?;
+    let fault = fault_of(alloc, disk, root);
+    let damage = Some(PageFault::Damaged(33));
+    assert_same(rt, "what is told of the page", fault, damage);
+    disk.fail_reads(2, 2, 2);
+    let fault = fault_of(alloc, disk, root);
+    let unread = Some(PageFault::ReadFault);
+    assert_same(rt, "what is told of the read", fault, unread);
+    Ok(())
+}
+
+#[test]
+fn a_page_that_is_written_over_is_damaged_where_it_is_read(rt: HostRuntime) -> Result<(), Fail> {
+    let mut disk = MemDisk::new(rt.alloc(), 64)?;
+    spoil(&rt, rt.alloc(), &mut disk)
 }

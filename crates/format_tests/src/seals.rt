@@ -1,11 +1,12 @@
-use crate::bodies::{put, read_back, written_body};
+use crate::bodies::{close, open, put, read_back, reads_open, written_body};
+use crate::comparing::{assert_same, assert_same_at};
 use disk_model::{Disk, Failed, MemDisk};
 use page_tree::PagePtr;
 use sha2::{Digest, Sha256};
 use std::alloc::Global;
 use std::process::Abort;
 use std::test::Fail;
-use uber_ring::{Seal, close_slot, find, gate_open, open_slot};
+use uber_ring::{Seal, find};
 
 /// A pointer whose sector and digest are made of one byte each.
 fn pointer(sector: u8, digest: u8) -> PagePtr {
@@ -56,13 +57,6 @@ fn disk_of(rt: &impl Abort, alloc: Global, body: &[u8; 4096]) -> Result<MemDisk,
     Ok(disk)
 }
 
-/// Opens a slot of a disk that has the ring.
-fn open<D: Disk>(rt: &impl Abort, disk: &mut D, slot: u32) -> Result<(), Failed> {
-    assert!(rt; disk.sectors() >= 32);
-    assert!(rt; slot < 16);
-    open_slot(disk, slot)
-}
-
 /// The seal that counts at this version.
 fn found_in<D: Disk>(disk: &mut D, version: u32) -> Result<Option<Seal>, Failed> {
     let mut meter = disk.meter()?;
@@ -71,127 +65,201 @@ fn found_in<D: Disk>(disk: &mut D, version: u32) -> Result<Option<Seal>, Failed>
     found
 }
 
-/// Whether the gate of the sample's slot reads open.
-fn is_open<D: Disk>(rt: &impl Abort, disk: &mut D) -> Result<bool, Failed> {
-    assert!(rt; disk.sectors() >= 32);
-    let mut meter = disk.meter()?;
-    let open = gate_open(disk, &mut meter, 8);
-    disk.retire(meter);
-    open
+/// Sees which seal counts at this version.
+fn assert_found<D: Disk>(
+    rt: &impl Abort,
+    disk: &mut D,
+    what: &str,
+    version: u32,
+    seal: Option<Seal>,
+) -> Result<(), Failed> {
+    let found = found_in(disk, version)?;
+    assert_same(rt, what, found, seal);
+    Ok(())
 }
 
+/// Sees which bytes stand at an offset.
 fn assert_bytes(rt: &impl Abort, body: &[u8; 4096], offset: usize, bytes: &[u8]) {
     assert!(rt; offset < 4096 && bytes.len() <= 4096 - offset);
-    assert_eq!(rt;
-        body.split_at(offset).1.split_at(bytes.len()).0,
-        bytes,
-        "at {offset}"
-    );
+    let found = body.split_at(offset).1.split_at(bytes.len()).0;
+    assert_same_at(rt, "the bytes at", offset as u64, found, bytes);
+}
+
+/// Sees the numbers in front of the pointers.
+fn assert_numbers(rt: &impl Abort, body: &[u8; 4096]) {
+    assert_bytes(rt, body, 0, b"DDTSEAL1");
+    assert_bytes(rt, body, 8, &[1, 0, 0, 0, 255, 0, 0, 0, 0x18, 0x17]);
+    let sectors = [0x28, 0x27, 0x26, 0x25, 0x24, 0x23, 0x22, 0x21, 0x38];
+    assert_bytes(rt, body, 24, &sectors);
+    let modes = [0x44, 0x43, 0x42, 0x41, 0, 0, 0, 0, 0, 1, 2, 3];
+    assert_bytes(rt, body, 40, &modes);
+    assert_bytes(rt, body, 62, &[14, 15, 0x58, 0x57]);
+    assert_bytes(rt, body, 71, &[0x51, 0x68]);
+    assert_bytes(rt, body, 79, &[0x61, 0x78]);
+    let checkpoint = [0x71, 0x84, 0x83, 0x82, 0x81, 0x94, 0x93, 0x92, 0x91, 0xa1];
+    assert_bytes(rt, body, 87, &checkpoint);
+}
+
+/// Sees the pointers, and the numbers and the digest behind them.
+fn assert_pointers(rt: &impl Abort, body: &[u8; 4096]) {
+    assert_bytes(rt, body, 127, &[0xa1, 0xb1, 0, 0, 0, 0, 0, 0, 0, 0xb2]);
+    assert_bytes(rt, body, 167, &[0xb2, 0xc1, 0]);
+    assert_bytes(rt, body, 207, &[0xc2, 0xd1, 0]);
+    assert_bytes(rt, body, 247, &[0xd2, 0xe1, 0]);
+    assert_bytes(rt, body, 287, &[0xe2, 0xf1, 0]);
+    assert_bytes(rt, body, 327, &[0xf2, 0x19, 0]);
+    assert_bytes(rt, body, 367, &[0x29, 0x37, 0x36]);
+    assert_bytes(rt, body, 375, &[0x39, 0x47]);
+    assert_bytes(rt, body, 383, &[0x49, 0x57]);
+    assert_bytes(rt, body, 391, &[0x59, 0, 0]);
+    assert_bytes(rt, body, 4062, &[0, 0]);
+    assert_bytes(rt, body, 4064, &digest_of(body));
+}
+
+/// The digest over a body, but for its last 32 bytes.
+fn digest_of(body: &[u8; 4096]) -> [u8; 32] {
+    Sha256::digest(body.split_at(4064).0)
 }
 
 #[test]
 fn each_field_stands_at_its_offset(rt: HostRuntime) -> Result<(), Fail> {
     let body = written_body(&rt, rt.alloc(), &sample())?;
-    assert_bytes(&rt, &body, 0, b"DDTSEAL1");
-    assert_bytes(&rt, &body, 8, &[1, 0, 0, 0, 255, 0, 0, 0, 0x18, 0x17]);
-    assert_bytes(
-        &rt,
-        &body,
-        24,
-        &[0x28, 0x27, 0x26, 0x25, 0x24, 0x23, 0x22, 0x21, 0x38],
-    );
-    assert_bytes(
-        &rt,
-        &body,
-        40,
-        &[0x44, 0x43, 0x42, 0x41, 0, 0, 0, 0, 0, 1, 2, 3],
-    );
-    assert_bytes(&rt, &body, 62, &[14, 15, 0x58, 0x57]);
-    assert_bytes(&rt, &body, 71, &[0x51, 0x68]);
-    assert_bytes(&rt, &body, 79, &[0x61, 0x78]);
-    assert_bytes(
-        &rt,
-        &body,
-        87,
-        &[0x71, 0x84, 0x83, 0x82, 0x81, 0x94, 0x93, 0x92, 0x91, 0xa1],
-    );
-    assert_bytes(&rt, &body, 127, &[0xa1, 0xb1, 0, 0, 0, 0, 0, 0, 0, 0xb2]);
-    assert_bytes(&rt, &body, 167, &[0xb2, 0xc1, 0]);
-    assert_bytes(&rt, &body, 207, &[0xc2, 0xd1, 0]);
-    assert_bytes(&rt, &body, 247, &[0xd2, 0xe1, 0]);
-    assert_bytes(&rt, &body, 287, &[0xe2, 0xf1, 0]);
-    assert_bytes(&rt, &body, 327, &[0xf2, 0x19, 0]);
-    assert_bytes(&rt, &body, 367, &[0x29, 0x37, 0x36]);
-    assert_bytes(&rt, &body, 375, &[0x39, 0x47]);
-    assert_bytes(&rt, &body, 383, &[0x49, 0x57]);
-    assert_bytes(&rt, &body, 391, &[0x59, 0, 0]);
-    assert_bytes(&rt, &body, 4062, &[0, 0]);
-    let digest = Sha256::digest(body.split_at(4064).0);
-    assert_bytes(&rt, &body, 4064, &digest);
+    assert_numbers(&rt, &body);
+    assert_pointers(&rt, &body);
+    Ok(())
+}
+
+/// Puts a body into the sample's slot, and sees that it counts at its version alone.
+fn read_in_place(rt: &impl Abort, disk: &mut MemDisk, body: &[u8; 4096]) -> Result<(), Failed> {
+    put(rt, disk, GATE + 1, body)?;
+    open(rt, disk, 8)?;
+    assert_found(rt, disk, "at its version", 1, Some(sample()))?;
+    assert_found(rt, disk, "at another version", 0, None)
+}
+
+/// Puts a body into the slot behind the sample's, and sees that it doesn't count.
+fn read_elsewhere(rt: &impl Abort, disk: &mut MemDisk, body: &[u8; 4096]) -> Result<(), Failed> {
+    put(rt, disk, GATE + 3, body)?;
+    open(rt, disk, 9)?;
+    assert_found(rt, disk, "in another slot", 1, None)
+}
+
+#[test]
+fn a_seal_is_read_back_in_its_slot(rt: HostRuntime) -> Result<(), Fail> {
+    let body = written_body(&rt, rt.alloc(), &sample())?;
+    let mut disk = MemDisk::new(rt.alloc(), 2048)?;
+    read_in_place(&rt, &mut disk, &body)?;
     Ok(())
 }
 
 #[test]
-fn a_seal_is_read_back_in_its_slot_alone(rt: HostRuntime) -> Result<(), Fail> {
+fn a_seal_is_not_read_back_in_another_slot(rt: HostRuntime) -> Result<(), Fail> {
     let body = written_body(&rt, rt.alloc(), &sample())?;
-    let mut disk = disk_of(&rt, rt.alloc(), &body)?;
-    assert_eq!(rt; found_in(&mut disk, 1)?, Some(sample()));
-    assert_eq!(rt; found_in(&mut disk, 0)?, None);
-
-    let mut elsewhere = MemDisk::new(rt.alloc(), 2048)?;
-    put(&rt, &mut elsewhere, GATE + 3, &body)?;
-    open(&rt, &mut elsewhere, 9)?;
-    assert_eq!(rt; found_in(&mut elsewhere, 1)?, None);
+    let mut disk = MemDisk::new(rt.alloc(), 2048)?;
+    read_elsewhere(&rt, &mut disk, &body)?;
     Ok(())
+}
+
+/// Sees that this body in the sample's slot spells no seal.
+fn assert_no_seal(
+    rt: &impl Abort,
+    alloc: Global,
+    what: &str,
+    body: &[u8; 4096],
+) -> Result<(), Fail> {
+    let mut disk = disk_of(rt, alloc, body)?;
+    assert_found(rt, &mut disk, what, 1, None)?;
+    Ok(())
+}
+
+/// Bytes of a body.
+const PLACES: [(&str, usize); 7] = [
+    ("with another byte at 0", 0),
+    ("with another byte at 8", 8),
+    ("with another byte at 45", 45),
+    ("with another byte at 400", 400),
+    ("with another byte at 4063", 4063),
+    ("with another byte at 4064", 4064),
+    ("with another byte at 4095", 4095),
+];
+
+/// A body of which the byte at this place is another.
+fn changed(rt: &impl Abort, body: &[u8; 4096], place: usize) -> [u8; 4096] {
+    assert!(rt; place < 4096);
+    let mut other = *body;
+    other[place] ^= 1;
+    other
 }
 
 #[test]
 fn a_changed_byte_leaves_no_seal(rt: HostRuntime) -> Result<(), Fail> {
     let whole = written_body(&rt, rt.alloc(), &sample())?;
-    for place in [0, 8, 45, 400, 4063, 4064, 4095] {
-        let mut body = whole;
-        body[place] ^= 1;
-        let mut disk = disk_of(&rt, rt.alloc(), &body)?;
-        assert_eq!(rt; found_in(&mut disk, 1)?, None, "at {place}");
+    for (what, place) in PLACES {
+        let body = changed(&rt, &whole, place);
+        assert_no_seal(&rt, rt.alloc(), what, &body)?;
     }
     Ok(())
 }
 
+/// A body with another text in front, and the digest over it.
+fn with_another_text(body: &[u8; 4096]) -> [u8; 4096] {
+    let mut other = *body;
+    other[7] = b'2';
+    let digest = digest_of(&other);
+    for (place, byte) in digest.iter().enumerate() {
+        other[4064 + place] = *byte;
+    }
+    other
+}
+
 #[test]
 fn another_text_in_front_leaves_no_seal(rt: HostRuntime) -> Result<(), Fail> {
-    let mut body = written_body(&rt, rt.alloc(), &sample())?;
-    body[7] = b'2';
-    let digest = Sha256::digest(body.split_at(4064).0);
-    for (place, byte) in digest.iter().enumerate() {
-        body[4064 + place] = *byte;
-    }
-    let mut disk = disk_of(&rt, rt.alloc(), &body)?;
-    assert_eq!(rt; found_in(&mut disk, 1)?, None);
+    let body = written_body(&rt, rt.alloc(), &sample())?;
+    let other = with_another_text(&body);
+    assert_no_seal(&rt, rt.alloc(), "with another text", &other)
+}
+
+/// Sees whether the gate of the sample's slot reads open.
+fn assert_gate<D: Disk>(
+    rt: &impl Abort,
+    disk: &mut D,
+    what: &str,
+    is_open: bool,
+) -> Result<(), Failed> {
+    let found = reads_open(rt, disk, 8)?;
+    assert_same(rt, what, found, is_open);
+    Ok(())
+}
+
+/// Changes the gate of an open slot behind its text, and then in it.
+fn change_gate(rt: &impl Abort, disk: &mut MemDisk) -> Result<(), Failed> {
+    let mut gate = read_back(rt, disk, GATE)?;
+    assert_same(rt, "its text", gate.split_at(8).0, b"DDTOPEN1".as_slice());
+    gate[8] = 77;
+    gate[4095] = 78;
+    put(rt, disk, GATE, &gate)?;
+    assert_gate(rt, disk, "whether it is open behind other bytes", true)?;
+    gate[7] = b'2';
+    put(rt, disk, GATE, &gate)?;
+    assert_gate(rt, disk, "whether it is open by another text", false)
+}
+
+/// Opens the gate of the sample's slot, changes it, and closes it.
+fn use_gate(rt: &impl Abort, disk: &mut MemDisk) -> Result<(), Failed> {
+    open(rt, disk, 8)?;
+    assert_gate(rt, disk, "whether it is open", true)?;
+    change_gate(rt, disk)?;
+    close(rt, disk, 8, true)?;
+    assert_gate(rt, disk, "whether it is open then", false)?;
+    let closed = read_back(rt, disk, GATE)?;
+    let zeros = [0; 4096];
+    assert_same(rt, "its bytes then", closed.as_slice(), zeros.as_slice());
     Ok(())
 }
 
 #[test]
 fn a_gate_is_open_by_its_text_alone(rt: HostRuntime) -> Result<(), Fail> {
     let mut disk = MemDisk::new(rt.alloc(), 32)?;
-    open(&rt, &mut disk, 8)?;
-    assert!(rt; is_open(&rt, &mut disk)?);
-    let mut gate = read_back(&rt, &mut disk, GATE)?;
-    assert_eq!(rt; gate.split_at(8).0, b"DDTOPEN1".as_slice());
-    gate[8] = 77;
-    gate[4095] = 78;
-    put(&rt, &mut disk, GATE, &gate)?;
-    assert!(rt; is_open(&rt, &mut disk)?);
-    gate[7] = b'2';
-    put(&rt, &mut disk, GATE, &gate)?;
-    assert!(rt; !is_open(&rt, &mut disk)?);
-    close(&rt, &mut disk)?;
-    assert!(rt; !is_open(&rt, &mut disk)?);
-    assert_eq!(rt; read_back(&rt, &mut disk, GATE)?, [0; 4096]);
+    use_gate(&rt, &mut disk)?;
     Ok(())
-}
-
-/// Closes the sample's slot, as one that was open.
-fn close<D: Disk>(rt: &impl Abort, disk: &mut D) -> Result<(), Failed> {
-    assert!(rt; disk.sectors() >= 32);
-    close_slot(disk, 8, true)
 }

@@ -1,13 +1,16 @@
 ghost use Rattle.std.specs.Prelude.{◌≤◌};
 
 use crate::comparing::{assert_same, assert_same_at};
+use ddt_entry::{Key, Pointer, SlotKind};
 use grant_book::SectorSet;
 use page_tree::RecordList;
+use plain_table::PlainTable;
 use pool_model::{Block, StoredBlock};
 use std::alloc::{AllocError, Global};
 use std::process::Abort;
 use std::test::Fail;
-use txg_sync::{ChainPages, place_chains};
+use table_state::SlotRecord;
+use txg_sync::{ChainPages, place_chains, used_after};
 
 /// A list of so many records.
 fn records_of(alloc: Global, count: u64) -> Result<RecordList, AllocError> {
@@ -81,5 +84,41 @@ fn chains_get_the_first_sectors_that_are_free(rt: HostRuntime) -> Result<(), Fai
 fn chains_that_do_not_fit_get_nothing(rt: HostRuntime) -> Result<(), Fail> {
     let found = placed(rt.alloc(), 35)?;
     assert_same(&rt, "whether chains are placed", found.is_some(), false);
+    Ok(())
+}
+
+/// Slot 3 of lane 0, which isn't flagged, with a block of five bytes in sector 36.
+const SLOT: SlotRecord = SlotRecord {
+    lane: 0,
+    slot: 3,
+    pointer: Pointer {
+        key: Key {
+            digest: [1; 32],
+            len: 5,
+        },
+        place: 36,
+        birth: 1,
+        kind: SlotKind::Plain,
+    },
+};
+
+#[test]
+fn the_ring_the_pages_and_the_slots_are_used(rt: HostRuntime) -> Result<(), Fail> {
+    let table = PlainTable::new(rt.alloc());
+    let used = used_after(
+        rt.alloc(),
+        40,
+        [34, 33].as_slice(),
+        [SLOT].as_slice(),
+        &table,
+    )?;
+    assert_same(&rt, "free sectors", used.free(), 5);
+    let free = used.free_places(rt.alloc(), 5)?.ok_or("five are free")?;
+    assert_same(
+        &rt,
+        "the free places",
+        free.as_slice(),
+        [32, 35, 37, 38, 39].as_slice(),
+    );
     Ok(())
 }

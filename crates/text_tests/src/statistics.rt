@@ -1,3 +1,4 @@
+use crate::comparing::assert_same;
 use ddt_entry::Key;
 use pool_model::{BUCKETS, Bucket, Stats};
 use pool_stats::{Reference, Standing, stats};
@@ -67,14 +68,68 @@ fn buckets(some: [[u64; 3]; 3]) -> [Bucket; BUCKETS] {
     buckets
 }
 
+/// Sees the statistics of these pointers.
+fn assert_counted(
+    rt: &impl Abort,
+    alloc: Global,
+    what: &str,
+    references: &[Reference],
+    totals: [u64; 8],
+    some: [[u64; 3]; 3],
+) -> Result<(), Fail> {
+    let stats = counted(rt, alloc, references)?;
+    assert_same(rt, what, numbers(&stats), totals);
+    assert_same(rt, what, stats.buckets, buckets(some));
+    Ok(())
+}
+
+/// No key in a bucket.
+const NONE: [u64; 3] = [0; 3];
+
 #[test]
-fn each_number_is_of_the_pointers_that_it_counts(rt: HostRuntime) -> Result<(), Fail> {
+fn pointers_that_are_not_tracked_have_no_key(rt: HostRuntime) -> Result<(), Fail> {
+    let alloc = rt.alloc();
+    let none = [NONE; 3];
+    assert_counted(&rt, alloc, "of no pointer", &[], [0; 8], none)?;
+    let uncounted = [plain(7, 10), loose(7, 10), loose(8, 3)];
+    let totals = [0, 0, 0, 0, 2, 1, 0, 0];
+    assert_counted(
+        &rt,
+        alloc,
+        "of loose and plain ones",
+        &uncounted,
+        totals,
+        none,
+    )
+}
+
+#[test]
+fn pointers_of_one_key_are_counted_together(rt: HostRuntime) -> Result<(), Fail> {
     let alloc = rt.alloc();
     let one = [tracked(7, 10)];
+    let totals = [1, 1, 0, 1, 0, 0, 10, 10];
+    let some = [[1, 10, 10], NONE, NONE];
+    assert_counted(&rt, alloc, "of one", &one, totals, some)?;
     let shared = [tracked(7, 4096), tracked(7, 4096)];
-    let uncounted = [plain(7, 10), loose(7, 10), loose(8, 3)];
+    let totals = [1, 0, 1, 2, 0, 0, 4096, 8192];
+    let some = [NONE, [1, 4096, 8192], NONE];
+    assert_counted(&rt, alloc, "of two with one key", &shared, totals, some)?;
     let same_digest = [tracked(7, 11), tracked(7, 10)];
-    let mixed = [
+    let totals = [2, 2, 0, 2, 0, 0, 21, 21];
+    let some = [[2, 21, 21], NONE, NONE];
+    assert_counted(
+        &rt,
+        alloc,
+        "of two with one digest",
+        &same_digest,
+        totals,
+        some,
+    )
+}
+
+/// Pointers of each standing, of one key with five, one with two and one with one that are tracked.
+fn mixed() -> [Reference; 11] {
+    [
         tracked(3, 4096),
         tracked(2, 10),
         loose(2, 10),
@@ -86,36 +141,12 @@ fn each_number_is_of_the_pointers_that_it_counts(rt: HostRuntime) -> Result<(), 
         tracked(2, 10),
         loose(9, 50),
         tracked(3, 4096),
-    ];
-    let none = [[0; 3]; 3];
-    let cases = [
-        ([].as_slice(), [0, 0, 0, 0, 0, 0, 0, 0], none),
-        (
-            one.as_slice(),
-            [1, 1, 0, 1, 0, 0, 10, 10],
-            [[1, 10, 10], [0; 3], [0; 3]],
-        ),
-        (
-            shared.as_slice(),
-            [1, 0, 1, 2, 0, 0, 4096, 8192],
-            [[0; 3], [1, 4096, 8192], [0; 3]],
-        ),
-        (uncounted.as_slice(), [0, 0, 0, 0, 2, 1, 0, 0], none),
-        (
-            same_digest.as_slice(),
-            [2, 2, 0, 2, 0, 0, 21, 21],
-            [[2, 21, 21], [0; 3], [0; 3]],
-        ),
-        (
-            mixed.as_slice(),
-            [3, 1, 2, 8, 2, 1, 4206, 20600],
-            [[1, 100, 100], [1, 10, 20], [1, 4096, 20480]],
-        ),
-    ];
-    'cases: for (references, totals, some) in cases {
-        let stats = counted(&rt, alloc, references)?;
-        assert_eq!(rt; numbers(&stats), totals);
-        assert!(rt; stats.buckets == buckets(some), "buckets of {totals:?}");
-    }
-    Ok(())
+    ]
+}
+
+#[test]
+fn each_number_is_of_the_pointers_that_it_counts(rt: HostRuntime) -> Result<(), Fail> {
+    let totals = [3, 1, 2, 8, 2, 1, 4206, 20600];
+    let some = [[1, 100, 100], [1, 10, 20], [1, 4096, 20480]];
+    assert_counted(&rt, rt.alloc(), "of all kinds", &mixed(), totals, some)
 }
