@@ -51,11 +51,7 @@ fn pages_of(alloc: Global, parts: &[ChainPages]) -> Result<SectorList, AllocErro
 }
 
 /// The table and its logs after the group. The error is want of memory.
-fn kept_after(
-    alloc: Global,
-    pool: &Pool,
-    closed: &Closed,
-) -> Result<LoggedPlainTable, AllocError>
+fn kept_after(alloc: Global, pool: &Pool, closed: &Closed) -> Result<LoggedPlainTable, AllocError>
     ensures { IfOk result (λ kept. logged_of kept ≡ sync_logged closed.now.changes.items (kept_of pool.now)) }
 {
     sync_logged(alloc, &pool.table, &pool.logs, closed.changes.as_slice())
