@@ -1,2 +1,3 @@
+pub mod Acting
 pub mod Allowed
 pub mod Seating

@@ -1,5 +1,5 @@
 //! A core of eight keys over a group that tells no home, for tests that take any step.
-ghost use Rattle.std.specs.Prelude.{◌≡◌, ◌*◌, ◌≤◌, [], IfOk};
+ghost use Rattle.std.specs.Prelude.{◌≡◌, ◌*◌, ◌≤◌, true, [], IfOk};
 ghost use Rattle.live_core.specs.Bases.{IsHome};
 ghost use Rattle.live_core_tests.specs.Groups.{IsAllowed, IsOfGroup};
 
@@ -51,37 +51,43 @@ pub struct Bench {
     ghost room: { left ≤ core.spare },
 }
 
-/// A home that a table may have before the group.
-fn assert_home(rt: &impl Abort, home: Home)
-    ensures { IsHome 1000 7 home }
+/// Whether a table may have this home before the group.
+fn is_home(home: Home) -> bool
+    ensures { result ≡ true → IsHome 1000 7 home }
 {
-    assert!(rt; home.place >= 32 && home.place < 1000);
-    assert!(rt; home.birth >= 1 && home.birth < NUMBER);
-    assert!(rt; home.since < 1_099_511_627_776);
-    assert!(rt; home.count <= 1_048_576);
+    if home.place < 32 || home.place >= 1000 {
+        return false;
+    }
+    if home.birth < 1 || home.birth >= NUMBER {
+        return false;
+    }
+    home.since < 1_099_511_627_776 && home.count <= 1_048_576
+}
+
+/// Whether the step may be taken in the group.
+pub fn is_allowed(step: Step) -> bool
+    ensures { result ≡ true → IsAllowed step }
+{
+    match step {
+        Step::Loaded {
+            home: Some(home),
+            ..
+        } => is_home(home),
+        Step::Ref {
+            lane,
+            index,
+            key,
+            ..
+        } => lane < 16 && index == key && key < KEYS,
+        _ => true,
+    }
 }
 
 /// The step is one that may be taken in the group.
 fn assert_allowed(rt: &impl Abort, step: Step)
     ensures { IsAllowed step }
 {
-    match step {
-        Step::Loaded {
-            home: Some(home),
-            ..
-        } => assert_home(rt, home),
-        Step::Ref {
-            lane,
-            index,
-            key,
-            ..
-        } => {
-            assert!(rt; lane < 16);
-            assert!(rt; index == key);
-            assert!(rt; key < KEYS);
-        }
-        _ => {}
-    }
+    assert!(rt; is_allowed(step), "{step:?} may not be taken");
 }
 
 /// A core of the group, with room for three events a command.

@@ -32,7 +32,7 @@ impl Numbers {
 }
 
 /// The home of a key in the table: none, or with 2, 0 or 1 references.
-fn in_table(key: u32) -> Option<Home> {
+pub fn in_table(key: u32) -> Option<Home> {
     let count = match key % 4 {
         0 => return None,
         1 => 2,
@@ -123,7 +123,7 @@ fn choose(numbers: &mut Numbers, states: &States, place: u64) -> Step {
 }
 
 /// The homes with a count above 0: in the table of the keys that aren't known, and else by their states.
-fn homes_in(states: &States) -> u64 {
+pub fn homes_in(states: &States) -> u64 {
     let mut homes: u64 = 0;
     for (key, state) in states.iter().enumerate() {
         let live = match state {
