@@ -123,6 +123,21 @@ use_first first (true ∷ used) (suc low) is within free =
 use_first first (false ∷ used) (suc low) is within free =
     absurd (never_first first (first + suc low) (free_from (first + 1) used) (drop low used) (omega arith) is)
 
+-- where no sector below a first one is free, none below both that one and a sector that is free from now on is
+pub unset_low : (first : ℕ) (used : List Bool) (low place m : ℕ) → m ≤ low → m ≤ place
+    → free_from first used ≡ free_from (first + low) (drop low used)
+    → free_from first (slice_set used place false) ≡ free_from (first + m) (drop m (slice_set used place false))
+unset_low first used low place zero below before is = ap (λ n. free_from n (slice_set used place false)) (omega arith)
+unset_low first used zero place (suc m) below before is = absurd (omega (arith, below))
+unset_low first used (suc low) zero (suc m) below before is = absurd (omega (arith, before))
+unset_low first [] (suc low) (suc place) (suc m) below before is = refl
+unset_low first (true ∷ used) (suc low) (suc place) (suc m) below before is =
+    unset_low (first + 1) used low place m (omega (arith, below)) (omega (arith, before))
+    (is ∙ ap (λ n. free_from n (drop low used)) (omega arith))
+    ∙ ap (λ n. free_from n (drop m (slice_set used place false))) (omega arith)
+unset_low first (false ∷ used) (suc low) (suc place) (suc m) below before is =
+    absurd (never_first first (first + suc low) (free_from (first + 1) used) (drop low used) (omega arith) is)
+
 module _ (used : List Bool) (sector next : ℕ) (one : next ≡ suc sector) where
   abbrev rest_then : List Bool → List ℕ
   rest_then notes = free_from next (drop next notes)
@@ -256,12 +271,14 @@ module _ (used pending : List Bool) (free low : ℕ) (is : IsBook used pending f
 
   -- ---- A place that is given back
 
-  pub given_book : (place : ℕ) → slice_index_or pending place false ≡ false → slice_index_or used place false ≡ true
-      → IsBook (slice_set used place false) pending (free + 1) 0
-  given_book place stays here = record {
+  pub given_book : (place m : ℕ) → m ≤ low → m ≤ place → slice_index_or pending place false ≡ false
+      → slice_index_or used place false ≡ true → IsBook (slice_set used place false) pending (free + 1) m
+  given_book place m below before stays here = record {
     alike = is.alike ∙ sym (length-set used place false);
     free_is = omega (arith, is.free_is, free_unset used place here);
-    low_is = refl;
+    low_is =
+        unset_low 0 used low place m below before (is.low_is ∙ ap (λ n. free_from n (drop low used)) (omega arith))
+        ∙ ap (λ n. free_from n (drop m (slice_set used place false))) (omega arith);
     held = λ sector said. ⊎_elim
         (λ same. absurd (false≢true (sym stays ∙ ap (λ at. slice_index_or pending at false) (sym same) ∙ said))) (λ there. there)
         (unset_before used place sector (is.held sector said));

@@ -210,12 +210,12 @@ impl GrantBook {
         ensures used { self.new.used ≡ slice_set self.old.used place false }
         ensures pending { self.new.pending ≡ self.old.pending }
     {
-        self.low = 0;
-        if !self.used[place as usize] {
+        if !self.has(place) {
             return;
         }
         self.used[place as usize] = false;
         self.free += 1;
+        self.low = self.low.min(place);
     }
 
     /// A used place is pending from now on: it is free once the book is settled.

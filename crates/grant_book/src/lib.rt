@@ -14,10 +14,10 @@
 //! pending or free, and a place that is given out was free, is given out once, and isn't pending
 //! (`specs/Book.antt`). No call but `grant` takes memory; the set has brought the room to note what is pending.
 //!
-//! The number of free sectors is kept. A search goes on from where the last one ended, and begins anew only
-//! after `give_back` or `settle`: giving out n places takes a step for each, and one for each used sector that
-//! the search passes, once between two times that it begins anew. `settle` and `used_after` go over all
-//! sectors, any other call of the book takes the same time in every pool.
+//! The number of free sectors is kept. A search goes on from where the last one ended, or from the lowest place
+//! that was given back since, and begins anew only after `settle`: giving out n places takes a step for each, and
+//! one for each used sector between them. `give_back` takes a step for each place, `settle` and `used_after` go
+//! over all sectors, and any other call of the book takes the same time in every pool.
 //!
 //! `LaneSlots` has what the slots hold that a lane's commands name, while the lane runs. A look-up takes a time of
 //! the logarithm of their number.
