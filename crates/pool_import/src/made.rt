@@ -13,10 +13,10 @@ use crate::judge::judge;
 use crate::tables::table_of;
 use crate::whole::hold_together;
 use grant_book::SectorSet;
-use plain_table::PlainTable;
+use plain_table::{KeptLogs, PlainTable};
 use pool_model::Mode;
 use std::alloc::{AllocError, Global};
-use table_state::{KeptLogs, Pool, mode_of};
+use table_state::{Pool, mode_of};
 use uber_ring::{Seal, seal_fits};
 
 /// The pool that a seal and its parts make, and `None` where they break a rule. The error is want of memory.
