@@ -1,5 +1,5 @@
 -- A map that has each change under its own key, as the sorted list of its changes.
-use Rattle.std.proofs.Common.{◌≡◌, Bool, true, false, cond, not, List, [], ◌∷◌, map, filter, find, Option, Some, None, refl, sym, ap, subst, ◌∙◌}
+use Rattle.std.proofs.Common.{◌≡◌, Bool, true, false, cond, not, List, [], ◌∷◌, Option, Some, refl, sym, ap, subst, ◌∙◌}
 use Rattle.std.specs.Prelude.{if◌then◌else◌}
 use Rattle.std.specs.List.{AllByRecursion}
 use Rattle.std.specs.List.Sorted.{IsStrictlySortedBy}
@@ -8,7 +8,6 @@ use Rattle.std.specs.BTreeMap.{insert_entry, is_at}
 use Rattle.std.specs.Ordering.{is_eq, is_lt, match_ordering}
 use Rattle.std.specs.declared.cmp.Ordering.{Ordering}
 use Rattle.std.specs.declared.cmp.Ordering.TheVariants.{Less, Equal, Greater}
-use Rattle.std.proofs.lemmas.Bool.{false≢true}
 use Rattle.std.proofs.lemmas.Map.Keys.{sorted_head, sorted_tail}
 use Rattle.ddt_entry.specs.Keys.{key_cmp, key_eq}
 use Rattle.ddt_entry.specs.Changes.{key_in}
@@ -124,25 +123,29 @@ keyed_removed key (entry ∷ entries) keyed = by_test (keyed_removed key entries
 
 -- ---- What a map's calls say, of the list that it is seen as
 
-module _ (entries : List Entry) (log : List Change) (keyed : AreKeyed entries) (seen : values_of entries ≡ log) where
-  pub is_set : (change : Change) (key : Key) (new : List Entry) → key ≡ key_in change → new ≡ insert_entry key_cmp entries key change
+pub record IsSeen (entries : List Entry) (log : List Change) : Type 0 where
+  pub keyed : AreKeyed entries
+  pub seen : values_of entries ≡ log
+
+module _ {entries : List Entry} {log : List Change} (is : IsSeen entries log) where
+  pub is_set : (change : Change) {key : Key} {new : List Entry} → key ≡ key_in change → new ≡ insert_entry key_cmp entries key change
       → values_of new ≡ set_change change log
-  is_set change key new own is =
-      ap values_of is ∙ ap (λ k. values_of (insert_entry key_cmp entries k change)) own ∙ set_values change entries keyed
-      ∙ ap (set_change change) seen
+  is_set change own put =
+      ap values_of put ∙ ap (λ k. values_of (insert_entry key_cmp entries k change)) own ∙ set_values change entries is.keyed
+      ∙ ap (set_change change) is.seen
 
-  pub is_keyed : (change : Change) (key : Key) (new : List Entry) → key ≡ key_in change → new ≡ insert_entry key_cmp entries key change
+  pub is_keyed : (change : Change) {key : Key} {new : List Entry} → key ≡ key_in change → new ≡ insert_entry key_cmp entries key change
       → AreKeyed new
-  is_keyed change key new own is =
-      subst AreKeyed (sym (is ∙ ap (λ k. insert_entry key_cmp entries k change) own)) (keyed_set change entries keyed)
+  is_keyed change own put =
+      subst AreKeyed (sym (put ∙ ap (λ k. insert_entry key_cmp entries k change) own)) (keyed_set change entries is.keyed)
 
-  pub is_found : (key own : Key) (o : Option Change) → key ≡ own → o ≡ lookup (is_at (key_cmp key)) entries → o ≡ change_at own log
-  is_found key own o same is =
-      is ∙ ap (λ k. lookup (is_at (key_cmp k)) entries) same ∙ lookup_values own entries keyed ∙ ap (change_at own) seen
+  pub is_found : {key own : Key} {o : Option Change} → key ≡ own → o ≡ lookup (is_at (key_cmp key)) entries → o ≡ change_at own log
+  is_found {own = own} same found =
+      found ∙ ap (λ k. lookup (is_at (key_cmp k)) entries) same ∙ lookup_values own entries is.keyed ∙ ap (change_at own) is.seen
 
   pub is_rising : IsStrictlySortedBy key_cmp (keys_of entries) → AreChangesRising log
-  is_rising sorted = subst AreChangesRising seen (rising_values entries keyed sorted)
+  is_rising sorted = subst AreChangesRising is.seen (rising_values entries is.keyed sorted)
 
-  pub is_removed : (key : Key) (new : List Entry) → IsStrictlySortedBy key_cmp (keys_of entries)
+  pub is_removed : (key : Key) {new : List Entry} → IsStrictlySortedBy key_cmp (keys_of entries)
       → new ≡ remove_entry (is_at (key_cmp key)) entries → values_of new ≡ drop_change key log
-  is_removed key new sorted is = ap values_of is ∙ removed_values key entries keyed sorted ∙ ap (drop_change key) seen
+  is_removed key sorted left = ap values_of left ∙ removed_values key entries is.keyed sorted ∙ ap (drop_change key) is.seen

@@ -1,16 +1,16 @@
--- The lists of a pair stay what its logs are replayed to.
-use Rattle.std.proofs.Common.{◌≡◌, ℕ, ◌+◌, ◌<◌, true, List, [], ◌∷◌, length, take, get_or, Option, None, refl, sym, ap, ◌∙◌}
+-- The lists of a pair stay what its logs are replayed to, and its calls are steps of a table's sync.
+use Rattle.std.proofs.Common.{◌≡◌, ℕ, ◌+◌, ◌<◌, Bool, true, false, List, [], ◌∷◌, length, take, get_or, append-nil, fold, Option, None, refl, sym, ap, ◌∙◌}
 use Rattle.std.specs.Prelude.{if◌then◌else◌}
-use Rattle.std.proofs.lemmas.List.{take_more}
+use Rattle.std.proofs.lemmas.List.{append_assoc, take_more}
 use Rattle.ddt_entry.specs.Changes.{key_in}
 use Rattle.ddt_entry.specs.declared.key.Key.{Key}
 use Rattle.ddt_entry.specs.declared.entry.Change.{Change}
-use Rattle.pool_model.specs.Table.{set_change}
-use Rattle.pool_model.specs.Logs.{last_changes, is_left, left_in}
+use Rattle.pool_model.specs.Table.{TableState, set_change, log_change, logged, is_due, aged, swapped}
+use Rattle.pool_model.specs.Logs.{Logs, last_changes, is_left, left_in, appended, exchanged}
 use Rattle.pool_model.proofs.Lists.{all_each, filter_whole}
 use Rattle.pool_model.proofs.Replays.{log_change_replays, left_in-first, left_in-push}
 use Rattle.log_object.specs.Logged.{Logged, with_checkpoint}
-use Rattle.log_pair.specs.Paired.{Paired, pair_of, as_table, IsReplayed, with_change, flush_from}
+use Rattle.log_pair.specs.Paired.{Paired, pair_of, as_table, IsReplayed, of_table, with_change, flush_from, swapped_pair}
 
 -- ---- What each call keeps
 
@@ -49,3 +49,29 @@ left_more checkpoint active log i d {left} within so_far is =
     ∙ ap (λ (ys : List Change). if is_left checkpoint active (key_in (get_or log i d)) then set_change (get_or log i d) ys else ys) so_far
     ∙ sym (left_in-push checkpoint active (take i log) (get_or log i d))
     ∙ ap (left_in checkpoint active) (sym (take_more log i d within))
+
+-- ---- The calls as steps of a table's sync
+
+-- changes that are appended one by one are its first step
+pub logged-pair : (changes : List Change) (table : TableState) (logs : Logs)
+    → fold (λ pair change. with_change change pair) (of_table table logs) changes ≡ of_table (logged changes table) (appended changes logs)
+logged-pair [] table logs =
+    ap (λ (log : List Change). of_table table (record { active = log; flushing = logs.flushing })) (sym (append-nil logs.active))
+logged-pair (change ∷ changes) table logs =
+    logged-pair changes (log_change table change) (appended (change ∷ []) logs)
+    ∙ ap (λ (log : List Change). of_table (logged changes (log_change table change)) (record { active = log; flushing = logs.flushing }))
+    (append_assoc logs.active (change ∷ []) changes)
+
+-- a swap of logs that are due is its third
+pub swapped-pair : (table : TableState) (logs : Logs) → is_due (aged table) ≡ true
+    → swapped_pair (of_table table logs) ≡ of_table (swapped table) (exchanged (is_due (aged table)) logs)
+swapped-pair table logs due =
+    ap (λ (b : Bool). of_table (if b then record table { flush = table.active; active = []; age = 0; checkpoint = None } else aged table)
+    (exchanged b logs)) (sym due)
+
+-- where they aren't due, it leaves them as they are
+pub aged-pair : (table : TableState) (logs : Logs) → is_due (aged table) ≡ false
+    → of_table table logs ≡ of_table (swapped table) (exchanged (is_due (aged table)) logs)
+aged-pair table logs due =
+    ap (λ (b : Bool). of_table (if b then record table { flush = table.active; active = []; age = 0; checkpoint = None } else aged table)
+    (exchanged b logs)) (sym due)

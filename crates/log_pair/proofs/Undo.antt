@@ -1,5 +1,5 @@
 -- A change that was set in a sorted list, and is taken back.
-use Rattle.std.proofs.Common.{rules, ◌≡◌, Bool, true, false, cond, not, List, [], ◌∷◌, filter, find, Option, Some, None, refl, sym, ap, subst, ◌∙◌}
+use Rattle.std.proofs.Common.{rules, ◌≡◌, Bool, true, false, cond, not, List, [], ◌∷◌, Option, Some, None, refl, sym, ap, ◌∙◌}
 use Rattle.std.specs.Prelude.{if◌then◌else◌, IsSome}
 use Rattle.std.specs.List.{AllByRecursion}
 use Rattle.std.specs.Ordering.{is_eq, is_lt}
@@ -11,12 +11,13 @@ use Rattle.ddt_entry.specs.Keys.{key_cmp, key_eq}
 use Rattle.ddt_entry.specs.Changes.{key_in}
 use Rattle.ddt_entry.specs.declared.key.Key.{Key}
 use Rattle.ddt_entry.specs.declared.entry.Change.{Change}
-use Rattle.ddt_entry.proofs.KeyLaws.{key_cmp_total, is_eq-key_cmp, key_eq-true, key_eq-same, key_eq-symm, exact_keys}
+use Rattle.ddt_entry.proofs.KeyLaws.{key_cmp_total, is_eq-key_cmp, key_eq-true, key_eq-same, key_eq-symm}
 use Rattle.pool_model.specs.Table.{change_at, set_change, drop_change, AreChangesRising}
 use Rattle.pool_model.proofs.Lists.{all_each, all_from, all_missed, filter_whole, none_found}
 use Rattle.pool_model.proofs.Sorted.{less_of}
 use Rattle.pool_model.proofs.Lookups.{found_has}
 use Rattle.pool_model.proofs.Finding.{change_at-set}
+use Rattle.log_pair.specs.Keyed.{WasSet}
 
 -- where the key wasn't there, dropping it gives the list back
 pub taken_back : (change : Change) (log : List Change) → change_at (key_in change) log ≡ None
@@ -107,27 +108,26 @@ set_back change before (c ∷ log) rising there =
         ∙ ap (λ (ys : List Change). c ∷ ys)
         (rest (later_found (key_eq-symm (key_in c) (key_in change) ∙ sym (is_eq-key_cmp (key_in change) (key_in c)) ∙ ap is_eq said)))
 
--- a change that was set, and the one that stood there before
-pub is_taken_back : (change : Change) (first now new : List Change) (key : Key) {before : Option Change} → key ≡ key_in change
-    → now ≡ set_change change first → before ≡ change_at (key_in change) first → before ≡ None → new ≡ drop_change key now → new ≡ first
-is_taken_back change first now new key own set there none is =
-    is ∙ ap (λ k. drop_change k now) own ∙ ap (drop_change (key_in change)) set ∙ taken_back change first (sym there ∙ none)
+-- a set is taken back
+module _ {change : Change} {before : Option Change} {first now new : List Change} (was : WasSet change before first now) where
+  pub is_taken_back : {key : Key} → key ≡ key_in change → before ≡ None → new ≡ drop_change key now → new ≡ first
+  is_taken_back own none is =
+      is ∙ ap (λ k. drop_change k now) own ∙ ap (drop_change (key_in change)) was.set ∙ taken_back change first (sym was.stood ∙ none)
 
-pub is_set_back : (change old : Change) (first now new : List Change) {before : Option Change} → AreChangesRising first
-    → now ≡ set_change change first → before ≡ change_at (key_in change) first → before ≡ Some old
-    → (IsSome (change_at (key_in old) now) → new ≡ set_change old now) → new ≡ first
-is_set_back change old first now new rising set there is given =
-    given has ∙ ap (set_change old) set ∙ set_back change old first rising (sym there ∙ is)
-  where
-    found : change_at (key_in change) first ≡ Some old
-    found = sym there ∙ is
+  pub is_set_back : (old : Change) → before ≡ Some old → (IsSome (change_at (key_in old) now) → new ≡ set_change old now) → new ≡ first
+  is_set_back old there given =
+      given (some (change_at (key_in old) now) has) ∙ ap (set_change old) was.set ∙ set_back change old first was.rising found
+    where
+      found : change_at (key_in change) first ≡ Some old
+      found = sym was.stood ∙ there
 
-    some : (o : Option Change) → o ≡ Some change → IsSome o
-    some None e = absurd (cc e)
-    some (Some c) e = search rules
+      some : (o : Option Change) → o ≡ Some change → IsSome o
+      some None e = absurd (cc e)
+      some (Some c) e = search rules
 
-    has : IsSome (change_at (key_in old) now)
-    has = some (change_at (key_in old) now)
-        (ap (λ k. change_at k now) (same_key change old first found) ∙ ap (change_at (key_in change)) set
-        ∙ change_at-set (key_in change) change first
-        ∙ ap (λ b. cond b (Some change) (change_at (key_in change) first)) (key_eq-same (key_in change)))
+      has : change_at (key_in old) now ≡ Some change
+      has =
+          ap (λ k. change_at k now) (same_key change old first found)
+          ∙ ap (change_at (key_in change)) was.set
+          ∙ change_at-set (key_in change) change first
+          ∙ ap (λ b. cond b (Some change) (change_at (key_in change) first)) (key_eq-same (key_in change))

@@ -1,9 +1,17 @@
--- When a map from keys to changes has each change under its own key.
-use Rattle.std.specs.Prelude.{◌≡◌, List}
+-- What a map from keys to changes keeps, and what a change that is set in it leaves to be taken back.
+use Rattle.std.specs.Prelude.{◌≡◌, List, Option}
 use Rattle.std.specs.List.{AllByRecursion}
 use Rattle.ddt_entry.specs.Changes.{key_in}
 use Rattle.ddt_entry.specs.declared.key.Key.{Key}
 use Rattle.ddt_entry.specs.declared.entry.Change.{Change}
+use Rattle.pool_model.specs.Table.{change_at, set_change, AreChangesRising}
 
+-- each change stands under its own key
 abbrev pub AreKeyed : List (Key × Change) → Type 0
 AreKeyed entries = AllByRecursion (λ entry. entry.0 ≡ key_in entry.1) entries
+
+-- the change was set in a sorted list, where this one stood before
+pub record WasSet (change : Change) (before : Option Change) (first now : List Change) : Type 0 where
+  pub rising : AreChangesRising first
+  pub set : now ≡ set_change change first
+  pub stood : before ≡ change_at (key_in change) first

@@ -4,6 +4,7 @@ ghost use Rattle.std.specs.Map.Iter.{ShowsInOrder, deref};
 ghost use Rattle.ddt_entry.specs.Changes.{key_in};
 ghost use Rattle.ddt_entry.specs.declared.entry.Change.{Change as Changed};
 ghost use Rattle.pool_model.specs.Table.{change_at, set_change, drop_change, AreChangesRising};
+ghost use Rattle.log_pair.specs.Keyed.{WasSet};
 ghost use Rattle.log_pair.specs.Paired.{first};
 
 use ddt_entry::{Change, Key, key_of};
@@ -56,8 +57,7 @@ impl ChangeMap {
 
     /// Takes a `set` of this change back, which gave `before`. Takes no memory.
     pub fn put_back(&mut self, change: &Change, before: Option<Change>)
-        ensures { (first : List Changed) → AreChangesRising first → self.old ≡ set_change change.now first
-            → before ≡ change_at (key_in change.now) first → self.new ≡ first }
+        ensures { (first : List Changed) → WasSet change.now before first self.old → self.new ≡ first }
     {
         match before {
             None => self.remove(&key_of(change)),

@@ -7,4 +7,6 @@ pub invariant_of-self : goal.invariant_of-self
 invariant_of-self c = subst AreKeyed (sym c.remove.ensures.entries) (keyed_removed c.args.key.now _ c.self.invariant)
 
 pub returns : goal.returns
-returns c = is_removed _ _ c.self.invariant c.self.view_is c.args.key.now _ c.len-len.ensures.ordered c.remove.ensures.entries
+returns c =
+    is_removed (record { keyed = c.self.invariant; seen = c.self.view_is }) c.args.key.now c.len-len.ensures.ordered
+    c.remove.ensures.entries

@@ -7,19 +7,25 @@ use Rattle.log_pair.proofs.change_map.ChangeMap.set.Goals as goal
 pub returns-in_err-before-clause-absent : goal.returns-in_err-before-clause-absent
 returns-in_err-before-clause-absent c =
     let none : change_at (key_in c.args.change) c.args.self.now ≡ None =
-    sym (is_found _ _ c.self.invariant c.self.view_is _ _ _ c.key_of.ensures (sym c.in_err-before.ensures.absent)) in search rules
+    sym (is_found (record { keyed = c.self.invariant; seen = c.self.view_is })
+    c.key_of.ensures (sym c.in_err-before.ensures.absent)) in search rules
 
 pub returns-in_err-before-clause-sorted : goal.returns-in_err-before-clause-sorted
-returns-in_err-before-clause-sorted c = is_rising _ _ c.self.invariant c.self.view_is c.in_err-before.ensures.was_ordered
+returns-in_err-before-clause-sorted c =
+    is_rising (record { keyed = c.self.invariant; seen = c.self.view_is }) c.in_err-before.ensures.was_ordered
 
 pub invariant_of-self-2 : goal.invariant_of-self-2
-invariant_of-self-2 c = is_keyed _ _ c.self.invariant c.self.view_is _ _ _ c.key_of.ensures c.in_ok-before.ensures.entries
+invariant_of-self-2 c =
+    is_keyed (record { keyed = c.self.invariant; seen = c.self.view_is }) _ c.key_of.ensures c.in_ok-before.ensures.entries
 
 pub returns-clause-set : goal.returns-clause-set
-returns-clause-set c = is_set _ _ c.self.invariant c.self.view_is _ _ _ c.key_of.ensures c.in_ok-before.ensures.entries
+returns-clause-set c =
+    is_set (record { keyed = c.self.invariant; seen = c.self.view_is }) _ c.key_of.ensures c.in_ok-before.ensures.entries
 
 pub returns-clause-before : goal.returns-clause-before
-returns-clause-before c = is_found _ _ c.self.invariant c.self.view_is _ _ _ c.key_of.ensures c.in_ok-before.ensures.old
+returns-clause-before c =
+    is_found (record { keyed = c.self.invariant; seen = c.self.view_is }) c.key_of.ensures c.in_ok-before.ensures.old
 
 pub returns-clause-sorted : goal.returns-clause-sorted
-returns-clause-sorted c = is_rising _ _ c.self.invariant c.self.view_is c.in_ok-before.ensures.was_ordered
+returns-clause-sorted c =
+    is_rising (record { keyed = c.self.invariant; seen = c.self.view_is }) c.in_ok-before.ensures.was_ordered
