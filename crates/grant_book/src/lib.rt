@@ -16,8 +16,8 @@
 //!
 //! The number of free sectors is kept. A search goes on from where the last one ended, or from the lowest place
 //! that was given back since, and begins anew only after `settle`: giving out n places takes a step for each, and
-//! one for each used sector between them. `give_back` takes a step for each place, `settle` and `used_after` go
-//! over all sectors, and any other call of the book takes the same time in every pool.
+//! one for each used sector between them. `give_back` takes a step for each place, `of_used`, `settle` and
+//! `used_after` go over all sectors, and any other call of the book takes the same time in every pool.
 //!
 //! `LaneSlots` has what the slots hold that a lane's commands name, while the lane runs. A look-up takes a time of
 //! the logarithm of their number.
