@@ -1,7 +1,7 @@
 -- Flushing record by record comes to flushing the first few at once.
-use Rattle.std.proofs.Common.{◌≡◌, ℕ, ◌+◌, ◌<◌, Bool, false, List, [], ◌∷◌, ◌++◌, length, take, drop, take-append-drop, append-nil, fold, Option, refl, sym, ap, ◌∙◌, arith, min}
+use Rattle.std.proofs.Common.{◌≡◌, ℕ, ◌+◌, ◌<◌, Bool, false, List, [], ◌∷◌, ◌++◌, length, take, drop, take-append-drop, fold, Option, refl, sym, ap, ◌∙◌, arith}
 use Rattle.std.specs.Prelude.{◌==◌, if◌then◌else◌}
-use Rattle.std.proofs.lemmas.List.{append_assoc, drop-drop, drop-take, take-take, take_min, drop_min}
+use Rattle.std.proofs.lemmas.List.{append_assoc, drop-drop, drop-take, take-take}
 use Rattle.std.proofs.lemmas.List.Elements.{filter_map-append}
 use Rattle.std.proofs.lemmas.List.Sums.{fold-append}
 use Rattle.std.proofs.lemmas.Bool.Decides.{nat_tests}
@@ -71,21 +71,6 @@ pub so_flushed-more : (count : ℕ) (stage : Stage) → first_flushed (so_flushe
 so_flushed-more count stage =
     same_stage (zap_more count stage.zap stage.logs.flush) (popped_more count stage.logs)
     (places_more count stage.places stage.logs.flush)
-
--- none so far
-pub so_flushed-none : (stage : Stage) → stage ≡ so_flushed 0 stage
-so_flushed-none stage = same_stage refl refl (sym (append-nil stage.places))
-
--- no more than there are
-pub so_flushed-min : (limit count : ℕ) (stage : Stage) → count ≡ min limit (length stage.logs.flush)
-    → so_flushed count stage ≡ so_flushed limit stage
-so_flushed-min limit count stage least =
-    ap (λ (n : ℕ). so_flushed n stage) least
-    ∙ λ i. record {
-      zap = fold flush_entry stage.zap (take_min limit stage.logs.flush i);
-      logs = logs_of stage.logs (drop_min limit stage.logs.flush i) (reached stage.logs.checkpoint (take_min limit stage.logs.flush i));
-      places = stage.places ++ freed_in (take_min limit stage.logs.flush i);
-    }
 
 -- ---- The second step of a sync
 
