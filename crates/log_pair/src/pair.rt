@@ -195,8 +195,8 @@ impl LogPair {
         }
     }
 
-    /// The last key that has left the flushing log, or `None` where none has since the logs swapped. Takes
-    /// no memory.
+    /// The last key that has left the flushing log, or `None` where none has since it was last swapped or
+    /// emptied. Takes no memory.
     pub fn checkpoint(&self) -> Option<Key>
         ensures { result ≡ self.now.checkpoint }
     {

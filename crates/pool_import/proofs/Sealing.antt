@@ -1,7 +1,8 @@
 -- What the image stands for, by the seal that counts and the parts that were read.
 use Rattle.std.proofs.Common.{◌≡◌, ◌∙◌, ℕ, Option, Some, None, length, refl, sym, ap, subst, subst₂}
-use Rattle.std.specs.Prelude.{IfSome, IfNone, unwrap_or, sum_by}
+use Rattle.std.specs.Prelude.{IfOk, IfSome, IfNone, Result, Ok, Err, unwrap_or, sum_by}
 use Rattle.std.specs.List.{AllByRecursion}
+use Rattle.disk_model.specs.DiskLaws.{Stays}
 use Rattle.disk_model.specs.Images.{Image}
 use Rattle.uber_ring.specs.Ring.{newest}
 use Rattle.uber_ring.specs.declared.seal.Seal.{Seal}
@@ -11,6 +12,9 @@ use Rattle.table_state.specs.Flat.{Flat, IsRead, HoldTogether, StandsFor, IsDama
 use Rattle.table_state.specs.Pools.{Held, IsHeld}
 use Rattle.table_state.proofs.FlatLaws.{one_flat}
 use Rattle.pool_import.specs.Whole.{IsWhole}
+use Rattle.page_tree.specs.declared.fault.PageFault.{PageFault}
+use Rattle.pool_model.specs.declared.faults.SyncFault.{SyncFault}
+use Rattle.pool_import.specs.Faults.{told_of}
 use Rattle.pool_import.specs.Imports.{IsStanding, IsMade, IsMadeOf, held_of}
 
 -- ---- A pool that was found
@@ -56,6 +60,36 @@ is_held tag image seal held counts made_of =
       sectors_are = refl;
     } in
     (pool_in image seal flat, table_in seal flat, subst (λ (h : Held). IsHeld image h (pool_in image seal flat) (table_in seal flat)) (sym made.held_is) kept)
+
+-- contents that stay stand for the same pool
+pub as_before : (old new : Option Image) (held : Held) → Stays old new
+    → IfSome new (λ image. (pool : Pool) × (table : TableState) × IsHeld image held pool table)
+    → IfSome old (λ image. (pool : Pool) × (table : TableState) × IsHeld image held pool table)
+as_before None new held stays is = tt
+as_before (Some image) new held stays is =
+    subst (λ (told : Option Image). IfSome told (λ at. (pool : Pool) × (table : TableState) × IsHeld at held pool table)) stays is
+
+module _ (tag : ℕ) (old new : Option Image) where
+  abbrev Found : Option Image → Held → Type 0
+  Found told held = IfSome told (λ image. (pool : Pool) × (table : TableState) × IsHeld image held pool table)
+
+  both : (answer : Result (Option Held) PageFault) → Stays old new → IfOk answer (λ found. IfSome found (λ held. held.tag ≡ tag))
+      → IfOk answer (λ found. IfSome found (Found new))
+      → IfOk (told_of answer) (λ found. IfSome found (λ held. (held.tag ≡ tag) × Found old held))
+  both (Err fault) stays tagged is = tt
+  both (Ok None) stays tagged is = tt
+  both (Ok (Some held)) stays tagged is = (tagged, as_before old new held stays is)
+
+-- what an import tells, of contents that stay
+pub told_held : (tag : ℕ) (old new : Option Image) (answer : Result (Option Held) PageFault) → Stays old new
+    → IfOk answer (λ found. IfSome found (λ held. held.tag ≡ tag))
+    → IfOk answer (λ found. IfSome found (λ held. IfSome new (λ image. (pool : Pool) × (table : TableState) × IsHeld image held pool table)))
+    → (told : Result (Option Held) SyncFault) → told ≡ told_of answer
+    → IfOk told (λ found. IfSome found (λ held. (held.tag ≡ tag) × IfSome old (λ image. (pool : Pool) × (table : TableState) × IsHeld image held pool table)))
+told_held tag old new answer stays tagged is told told_is =
+    subst (λ (x : Result (Option Held) SyncFault). IfOk x (λ found. IfSome found (λ held.
+    (held.tag ≡ tag) × IfSome old (λ image. (pool : Pool) × (table : TableState) × IsHeld image held pool table))))
+    (sym told_is) (both tag old new answer stays tagged is)
 
 -- ---- A pool that was not found
 

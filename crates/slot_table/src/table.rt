@@ -63,8 +63,6 @@ impl SlotTable {
         lane: u32,
         slot: u32,
     ) -> Result<Option<Pointer>, FindFault>
-        requires lane { lane < 16 }
-        requires slot { slot < 65_536 }
         requires fits { P.fits reader.old disk.now }
         ensures found { IfOk result (λ pointer. pointer ≡ pointer_at lane slot self.now) }
         ensures told { IsOk result }
