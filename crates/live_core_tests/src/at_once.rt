@@ -7,7 +7,8 @@ ghost use Rattle.live_core_tests.specs.Groups.{IsAllowed, IsOfGroup};
 ghost use Rattle.live_core_tests.specs.Seated.{IsReady};
 
 use crate::group::{Group, KEYS, core_of, is_allowed};
-use crate::slow::{Slow, of_step, states_after};
+use crate::slow::{Slow, is_event, of_step, states_after};
+use crate::trace::{trace_in, with_event};
 use crate::walk::{homes_in, in_table};
 use ddt_entry::Home;
 use lane_lock::{LaneLock, Seat, lane};
@@ -26,6 +27,8 @@ const MOST_TURNS: u64 = 3_000_000;
 /// How the lanes of a test go.
 #[derive(Drop)]
 struct Course {
+    /// How many lanes there are.
+    lanes: u32,
     /// How many lanes were told, key by key, that another lane leads it.
     held: Vec<AtomicU64>,
     /// A leader loads its key once so many were.
@@ -34,6 +37,17 @@ struct Course {
     apart: u32,
     /// How often a lane could not use a key.
     faults: AtomicU64,
+    /// The trace of what each lane was told, once it has ended.
+    told: Vec<AtomicU64>,
+}
+
+/// What a lane goes by, from step to step.
+#[derive(Drop)]
+struct Tally {
+    /// How many more events it may keep.
+    left: u64,
+    /// The trace of the events that it was told.
+    told: u64,
 }
 
 /// That a thread gives back the seat of this lane.
@@ -45,16 +59,6 @@ struct SeatOf<'a> {
 
 impl<'a> Promise<Seat<Core<Group>>> for SeatOf<'a> {
     ghost kept_by = { λ p r. IsSeatOf p.lock.now r × (r.lane ≡ p.lane) };
-}
-
-/// Whether a step with this answer is an event.
-fn is_event(answer: Answer) -> bool
-    ensures { result ≡ is_kept answer }
-{
-    !matches!(
-        answer,
-        Answer::Held(_) | Answer::Known(_) | Answer::Again(_)
-    )
 }
 
 /// How many more events a lane may keep, after a step with this answer.
@@ -72,16 +76,17 @@ fn take_step<R: Wait>(
     seat: &mut Seat<Core<Group>>,
     _lane: u32,
     step: Step,
-    left: &mut u64,
+    tally: &mut Tally,
 ) -> Answer
-    requires ready { IsReady lock.now seat.old _lane left.old }
+    requires ready { IsReady lock.now seat.old _lane tally.old.left }
     requires lane { lane_in step ≡ _lane }
     requires allowed { IsAllowed step }
-    requires some { 0 < left.old }
-    ensures ready { IsReady lock.now seat.new _lane left.new }
+    requires some { 0 < tally.old.left }
+    ensures ready { IsReady lock.now seat.new _lane tally.new.left }
 {
     let answer = lock.act(rt, seat, step);
-    *left = left_after(answer, *left);
+    tally.left = left_after(answer, tally.left);
+    tally.told = with_event(tally.told, step, answer);
     answer
 }
 
@@ -92,36 +97,40 @@ fn act<R: Wait>(
     seat: &mut Seat<Core<Group>>,
     lane: u32,
     step: Step,
-    left: &mut u64,
+    tally: &mut Tally,
 ) -> Answer
-    requires ready { IsReady lock.now seat.old lane left.old }
+    requires ready { IsReady lock.now seat.old lane tally.old.left }
     requires lane { lane_in step ≡ lane }
-    ensures ready { IsReady lock.now seat.new lane left.new }
+    ensures ready { IsReady lock.now seat.new lane tally.new.left }
 {
     if !is_allowed(step) {
         return Answer::Stray;
     }
-    if *left == 0 {
+    if tally.left == 0 {
         return Answer::Stray;
     }
-    take_step(rt, lock, seat, lane, step, left)
+    take_step(rt, lock, seat, lane, step, tally)
 }
 
-/// Claims a key until no other lane leads it, and notes that one did. After too many turns it answers `Stray`.
+/// Claims a key until no other lane leads it, and notes that one did. After too many turns it answers `Stray`, and where it is
+/// told that it leads the key itself.
 fn claim<R: Wait>(
     rt: &R,
     lock: &LaneLock<Core<Group>>,
     seat: &mut Seat<Core<Group>>,
     lane: u32,
     key: u32,
-    left: &mut u64,
+    tally: &mut Tally,
     held: &AtomicU64,
 ) -> Answer
-    requires ready { IsReady lock.now seat.old lane left.old }
-    ensures ready { IsReady lock.now seat.new lane left.new }
+    requires ready { IsReady lock.now seat.old lane tally.old.left }
+    ensures ready { IsReady lock.now seat.new lane tally.new.left }
 {
     'turns: for turn in 0..MOST_TURNS {
-        let answer = act(rt, lock, seat, lane, Step::Claim { lane, key }, left);
+        let answer = act(rt, lock, seat, lane, Step::Claim { lane, key }, tally);
+        if answer == Answer::Held(lane) {
+            return Answer::Stray;
+        }
         if !matches!(answer, Answer::Held(_)) {
             return answer;
         }
@@ -150,17 +159,17 @@ fn load<R: Wait>(
     seat: &mut Seat<Core<Group>>,
     lane: u32,
     key: u32,
-    left: &mut u64,
+    tally: &mut Tally,
 ) -> bool
-    requires ready { IsReady lock.now seat.old lane left.old }
-    ensures ready { IsReady lock.now seat.new lane left.new }
+    requires ready { IsReady lock.now seat.old lane tally.old.left }
+    ensures ready { IsReady lock.now seat.new lane tally.new.left }
 {
     let step = Step::Loaded {
         lane,
         key,
         home: in_table(key),
     };
-    act(rt, lock, seat, lane, step, left) == Answer::Done
+    act(rt, lock, seat, lane, step, tally) == Answer::Done
 }
 
 /// A write of the lane to the key, and its home then.
@@ -170,10 +179,10 @@ fn write<R: Wait>(
     seat: &mut Seat<Core<Group>>,
     lane: u32,
     key: u32,
-    left: &mut u64,
+    tally: &mut Tally,
 ) -> Option<Home>
-    requires ready { IsReady lock.now seat.old lane left.old }
-    ensures ready { IsReady lock.now seat.new lane left.new }
+    requires ready { IsReady lock.now seat.old lane tally.old.left }
+    ensures ready { IsReady lock.now seat.new lane tally.new.left }
 {
     let step = Step::Ref {
         lane,
@@ -182,7 +191,7 @@ fn write<R: Wait>(
         verdict: Verdict::Trust,
         place: place_of(lane, key),
     };
-    match act(rt, lock, seat, lane, step, left) {
+    match act(rt, lock, seat, lane, step, tally) {
         Answer::New(home) => Some(home),
         Answer::Hit(home) => Some(home),
         _ => None,
@@ -196,11 +205,11 @@ fn free<R: Wait>(
     seat: &mut Seat<Core<Group>>,
     lane: u32,
     key: u32,
-    left: &mut u64,
+    tally: &mut Tally,
     home: Home,
 ) -> bool
-    requires ready { IsReady lock.now seat.old lane left.old }
-    ensures ready { IsReady lock.now seat.new lane left.new }
+    requires ready { IsReady lock.now seat.old lane tally.old.left }
+    ensures ready { IsReady lock.now seat.new lane tally.new.left }
 {
     let step = Step::Unref {
         lane,
@@ -209,7 +218,7 @@ fn free<R: Wait>(
         place: home.place,
         birth: home.birth,
     };
-    act(rt, lock, seat, lane, step, left) == Answer::Counted
+    act(rt, lock, seat, lane, step, tally) == Answer::Counted
 }
 
 /// The place that the lane has for the key.
@@ -224,19 +233,19 @@ fn look_up<R: Wait>(
     seat: &mut Seat<Core<Group>>,
     lane: u32,
     key: u32,
-    left: &mut u64,
+    tally: &mut Tally,
     course: &Course,
 ) -> bool
-    requires ready { IsReady lock.now seat.old lane left.old }
-    ensures ready { IsReady lock.now seat.new lane left.new }
+    requires ready { IsReady lock.now seat.old lane tally.old.left }
+    ensures ready { IsReady lock.now seat.new lane tally.new.left }
 {
     let Some(held) = course.held.get(key as usize) else {
         return false;
     };
-    match claim(rt, lock, seat, lane, key, left, held) {
+    match claim(rt, lock, seat, lane, key, tally, held) {
         Answer::Lead => {
             await_held(held, course.waits);
-            load(rt, lock, seat, lane, key, left)
+            load(rt, lock, seat, lane, key, tally)
         }
         Answer::Known(_) => true,
         _ => false,
@@ -250,25 +259,32 @@ fn use_key<R: Wait>(
     seat: &mut Seat<Core<Group>>,
     lane: u32,
     key: u32,
-    left: &mut u64,
+    tally: &mut Tally,
     course: &Course,
 ) -> bool
-    requires ready { IsReady lock.now seat.old lane left.old }
-    ensures ready { IsReady lock.now seat.new lane left.new }
+    requires ready { IsReady lock.now seat.old lane tally.old.left }
+    ensures ready { IsReady lock.now seat.new lane tally.new.left }
 {
-    if !look_up(rt, lock, seat, lane, key, left, course) {
+    if !look_up(rt, lock, seat, lane, key, tally, course) {
         return false;
     }
-    let Some(home) = write(rt, lock, seat, lane, key, left) else {
+    let Some(home) = write(rt, lock, seat, lane, key, tally) else {
         return false;
     };
     if lane % 2 == 0 {
         return true;
     }
-    free(rt, lock, seat, lane, key, left, home)
+    free(rt, lock, seat, lane, key, tally, home)
 }
 
-/// Uses all keys, one after the other, and notes each that could not be used.
+/// Notes the trace of what a lane was told.
+fn note_told(course: &Course, lane: u32, told: u64) {
+    if let Some(word) = course.told.get(lane as usize) {
+        word.store(told, Ordering::SeqCst);
+    }
+}
+
+/// Uses all keys, one after the other, and notes each that could not be used, and at the end what the lane was told.
 fn run_lane<R: Wait>(
     rt: &R,
     lock: &LaneLock<Core<Group>>,
@@ -284,13 +300,17 @@ fn run_lane<R: Wait>(
 {
     let own = lane(&seat);
     let mut seat = seat;
-    let mut left = room;
+    let mut tally = Tally {
+        left: room,
+        told: 0,
+    };
     'keys: for count in 0..KEYS {
         let key = own.wrapping_mul(course.apart).wrapping_add(count) % KEYS;
-        if !use_key(rt, lock, &mut seat, own, key, &mut left, course) {
+        if !use_key(rt, lock, &mut seat, own, key, &mut tally, course) {
             course.faults.fetch_add(1, Ordering::SeqCst);
         }
     }
+    note_told(course, own, tally.told);
     seat
 }
 
@@ -474,32 +494,88 @@ fn assert_legal(rt: &impl Abort, alloc: Global, events: &[Event]) -> Result<(), 
     Ok(())
 }
 
-/// Sees what the lanes have left.
-fn assert_core(rt: &impl Abort, alloc: Global, core: &Core<Group>, lanes: u64) -> Result<(), Fail> {
+/// Sees that each key is in the state that its events leave.
+fn assert_states(rt: &impl Abort, core: &Core<Group>) {
+    let states = states_after(core.history());
     for key in 0..KEYS {
-        assert_key(rt, core, key, lanes);
+        let left = core.state(key);
+        assert!(rt;
+            states.get(key as usize) == Some(&left),
+            "the events of key {key} leave another state"
+        );
+    }
+}
+
+/// Sees that each home that was loaded is the one in the table.
+fn assert_loaded(rt: &impl Abort, events: &[Event]) {
+    for event in events {
+        if let Step::Loaded { key, home, .. } = event.step {
+            assert!(rt; home == in_table(key), "the table has another home");
+        }
+    }
+}
+
+/// Sees that each lane was told what the history says of its steps, in their order.
+fn assert_told(rt: &impl Abort, course: &Course, events: &[Event]) {
+    for lane in 0..course.lanes {
+        assert!(rt;
+            told_to(course, lane) == Some(trace_in(events, lane)),
+            "lane {lane} was told something else"
+        );
+    }
+}
+
+/// Sees what the lanes have left.
+fn assert_core(
+    rt: &impl Abort,
+    alloc: Global,
+    core: &Core<Group>,
+    course: &Course,
+) -> Result<(), Fail> {
+    for key in 0..KEYS {
+        assert_key(rt, core, key, course.lanes as u64);
     }
     assert!(rt; core.homes() == KEYS as u64, "each key has a home");
+    assert_states(rt, core);
+    assert_loaded(rt, core.history());
+    assert_told(rt, course, core.history());
     assert_legal(rt, alloc, core.history())
 }
 
-/// A course on which nothing was noted yet.
-fn course_of(alloc: Global, waits: u64, apart: u32) -> Result<Course, AllocError> {
-    let mut held = Vec::new(alloc);
-    for _ in 0..KEYS {
-        held.push(AtomicU64::new(0))?;
+/// Words that are all 0.
+fn zeros(alloc: Global, count: u32) -> Result<Vec<AtomicU64>, AllocError> {
+    let mut words = Vec::new(alloc);
+    for _ in 0..count {
+        words.push(AtomicU64::new(0))?;
     }
+    Ok(words)
+}
+
+/// A course on which nothing was noted yet.
+fn course_of(alloc: Global, lanes: u32, waits: u64, apart: u32) -> Result<Course, AllocError> {
+    let held = zeros(alloc, KEYS)?;
+    let told = zeros(alloc, lanes)?;
     Ok(Course {
+        lanes,
         held,
         waits,
         apart,
         faults: AtomicU64::new(0),
+        told,
     })
 }
 
 /// How often a lane could not use a key.
 fn faults_of(course: &Course) -> u64 {
     course.faults.load(Ordering::SeqCst)
+}
+
+/// The trace of what a lane was told.
+fn told_to(course: &Course, lane: u32) -> Option<u64> {
+    match course.told.get(lane as usize) {
+        Some(word) => Some(word.load(Ordering::SeqCst)),
+        None => None,
+    }
 }
 
 /// Whether so many lanes were held at each key.
@@ -514,19 +590,19 @@ fn were_held(course: &Course, lanes: u64) -> bool {
 
 #[test]
 fn four_lanes_wait_for_the_one_that_leads(rt: HostRuntime) -> Result<(), Fail> {
-    let course = course_of(rt.alloc(), 3, 0)?;
+    let course = course_of(rt.alloc(), 4, 3, 0)?;
     let core = core_of(&rt, rt.alloc(), 4, None, 64)?;
     let core = run_core(&rt, rt.alloc(), core, &[32; 4], &course)?;
     assert!(&rt; faults_of(&course) == 0, "each lane used each key");
     assert!(&rt; were_held(&course, 3), "three lanes waited at each key");
-    assert_core(&rt, rt.alloc(), &core, 4)
+    assert_core(&rt, rt.alloc(), &core, &course)
 }
 
 #[test]
 fn sixteen_lanes_share_eight_keys(rt: HostRuntime) -> Result<(), Fail> {
-    let course = course_of(rt.alloc(), 0, 3)?;
+    let course = course_of(rt.alloc(), 16, 0, 3)?;
     let core = core_of(&rt, rt.alloc(), 4, None, 256)?;
     let core = run_core(&rt, rt.alloc(), core, &[32; 16], &course)?;
     assert!(&rt; faults_of(&course) == 0, "each lane used each key");
-    assert_core(&rt, rt.alloc(), &core, 16)
+    assert_core(&rt, rt.alloc(), &core, &course)
 }

@@ -2,7 +2,7 @@
 //!
 //! Nothing here is used by another crate. `group` is a core of eight keys that takes any step that is allowed; `rows` has the
 //! table; `slow` answers a step by the history alone, and `walk` chooses steps for both. `behind_lock` has a core in a lock, and
-//! `at_once` runs its lanes in threads.
+//! `at_once` runs its lanes in threads; `trace` makes one number of what a lane was told.
 #![tactic(auto)]
 
 #[cfg(test)]
@@ -15,5 +15,7 @@ mod group;
 mod rows;
 #[cfg(test)]
 mod slow;
+#[cfg(test)]
+mod trace;
 #[cfg(test)]
 mod walk;

@@ -1,5 +1,8 @@
 //! A machine that goes by its history alone, for each step from the start. It has no table: what an event left is read off its
 //! answer.
+ghost use Rattle.std.specs.Prelude.{◌≡◌};
+ghost use Rattle.live_core.specs.Moves.{is_kept};
+
 use crate::group::{MOMENT, NUMBER};
 use ddt_entry::Home;
 use live_core::{Answer, Body, Event, KeyState, LiveHome, Step, Verdict};
@@ -13,6 +16,16 @@ pub type States = [KeyState; 8];
 pub struct Slow {
     pub quota: Option<u64>,
     pub events: Vec<Event>,
+}
+
+/// Whether a step with this answer is an event.
+pub fn is_event(answer: Answer) -> bool
+    ensures { result ≡ is_kept answer }
+{
+    !matches!(
+        answer,
+        Answer::Held(_) | Answer::Known(_) | Answer::Again(_)
+    )
 }
 
 /// A lane and a key.
@@ -219,10 +232,7 @@ impl Slow {
             None => return Ok(Answer::Stray),
         };
         let answer = answer_at(state, step, has_room(homes, self.quota));
-        if !matches!(
-            answer,
-            Answer::Held(_) | Answer::Known(_) | Answer::Again(_)
-        ) {
+        if is_event(answer) {
             self.events.push(Event { step, answer })?;
         }
         Ok(answer)
