@@ -8,12 +8,7 @@ use std::process::Abort;
 use std::test::Fail;
 
 /// A group that writes this many blocks of two bytes, each its number, to the slots from one on.
-pub(crate) fn push_group(
-    alloc: Global,
-    text: &mut String,
-    first: u32,
-    count: u32,
-) -> Result<(), AllocError> {
+fn push_group(alloc: Global, text: &mut String, first: u32, count: u32) -> Result<(), AllocError> {
     text.push_str("group 1000\n")?;
     for number in 0..count {
         let slot = first.wrapping_add(number);
