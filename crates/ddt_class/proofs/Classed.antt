@@ -13,7 +13,8 @@ use Rattle.pool_model.proofs.Lists.{all_from, all_filter, pairs_filter}
 use Rattle.pool_model.proofs.Sorted.{all_put, rising_put}
 use Rattle.pool_model.proofs.TablePuts.{entries_put}
 use Rattle.ddt_class.specs.Classes.{is_unique, is_duplicate, unique_in, duplicate_in, class_in, count_of, merged, put_in, home_before, IsStored, IsClassed}
-use Rattle.ddt_class.proofs.Splits.{Below, merged-split, length-split, at-split, filter_set, filter_unset, filter_swaps}
+use Rattle.plain_table.proofs.HomeLists.{Below}
+use Rattle.ddt_class.proofs.Splits.{merged-split, length-split, at-split, filter_set, filter_unset, filter_swaps}
 use Rattle.ddt_class.proofs.Totals.{counts-set, counts-drop, counts-bound}
 
 -- a home that is counted is in one class alone

@@ -1,4 +1,3 @@
 pub mod Splits
-pub mod HomeLists
 pub mod Totals
 pub mod Classed

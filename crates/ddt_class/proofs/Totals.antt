@@ -16,7 +16,8 @@ use Rattle.pool_model.proofs.Finding.{keys_same}
 use Rattle.pool_model.proofs.Lookups.{at-above}
 use Rattle.pool_model.proofs.TablePuts.{entries_put}
 use Rattle.ddt_class.specs.Classes.{counts_in, count_of, IsStored}
-use Rattle.ddt_class.proofs.Splits.{Below, below_all}
+use Rattle.plain_table.proofs.HomeLists.{Below}
+use Rattle.ddt_class.proofs.Splits.{below_all}
 
 counts-cons : (e : Entry) (es : List Entry) → counts_in (e ∷ es) ≡ e.home.count + counts_in es
 counts-cons e es = sum_by-cons (λ (x : Entry). x.home.count) e es

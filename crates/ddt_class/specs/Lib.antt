@@ -1,2 +1,1 @@
-pub mod HomeLists
 pub mod Classes

@@ -5,11 +5,11 @@ ghost use Rattle.page_tree.specs.declared.fault.PageFault.TheVariants.{Memory as
 ghost use Rattle.pool_model.specs.Table.{AreRising, entry_at, set_entry, drop_entry};
 ghost use Rattle.ddt_class.specs.Classes.{class_in, counts_in, count_of, put_in, home_before};
 
-use crate::homes::HomeMap;
 use crate::merging::merged;
 use ddt_entry::{Home, Key};
 use disk_model::Disk;
 use page_tree::{FindFault, PageFault, PageReader};
+use plain_table::HomeMap;
 use pool_model::EntryList;
 use std::alloc::{AllocError, Global};
 use std::marker::Model;

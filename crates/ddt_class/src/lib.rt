@@ -5,7 +5,7 @@
 //! contract sees both classes as one list of entries, sorted by key; which class an entry stands in is its
 //! count's affair alone (`specs/Classes.antt`). `put` moves a key where its count asks for it.
 //!
-//! Each class is a map of its own, as each will be an object on pages of its own; over lists in memory a
+//! Each class is a map of its own (`plain_table::HomeMap`), as each will be an object on pages of its own; over lists in memory a
 //! look-up or a change takes a time of the logarithm of their sizes in both. The number of entries, of those
 //! of each class, and of the pointers that the homes count together are kept, and told at once. Calls take
 //! the disk and a reader of its pages, though no sector is read yet. `find` and `take_out` then never fail,
@@ -19,7 +19,6 @@
 #![tactic(auto)]
 
 mod classes;
-mod homes;
 mod merging;
 
 pub use classes::Classes;

@@ -1,7 +1,8 @@
 use crate::comparing::{assert_same, assert_same_at};
 use ddt_entry::{Key, Pointer, SlotKind};
+use slot_table::SlotRecord;
 use std::process::Abort;
-use table_state::{SLOT_RECORD_BYTES, SlotRecord, read_slot, write_slot};
+use table_state::{SLOT_RECORD_BYTES, read_slot, write_slot};
 
 /// The bytes 1 to 32.
 const DIGEST: [u8; 32] = [

@@ -4,14 +4,13 @@ use Rattle.std.proofs.lemmas.List.Elements.{All-map, All-nil, All-cons, All-head
 use Rattle.ddt_entry.specs.declared.key.Key.{Key}
 use Rattle.disk_model.specs.Images.{Image}
 use Rattle.pool_model.specs.Pool.{Pool}
-use Rattle.pool_model.specs.Table.{TableState, IsTable}
+use Rattle.pool_model.specs.Table.{TableState}
 use Rattle.pool_stats.specs.References.{reference_of, AreSmall}
 use Rattle.pool_stats.specs.declared.reference.Reference.{Reference}
 use Rattle.table_state.specs.Flat.{pointer_of}
 use Rattle.table_state.specs.Pools.{Held, IsHeld}
 use Rattle.table_state.specs.Sound.{IsSound}
-use Rattle.table_state.proofs.TableBack.{is_table_in}
-use Rattle.table_state.specs.declared.slot_record.SlotRecord.{SlotRecord}
+use Rattle.slot_table.specs.declared.slot.SlotRecord.{SlotRecord}
 use Rattle.held_stats.specs.Slots.{reference_in}
 use Rattle.table_state.proofs.SlotCounts.{few_slots, short_keys}
 
@@ -63,8 +62,3 @@ AreSmall-slots held references sound keys =
       short = All-unmap (λ (key : Key). key.len ≤ 4096) (λ (reference : Reference). reference.key) references
           (subst (All (λ (key : Key). key.len ≤ 4096)) (sym keys) short);
     }
-
--- the table of a pool that an image stands for is sorted
-pub sorted-held : (image : Image) (held : Held) (pool : Pool) (table : TableState) → IsHeld image held pool table → IsTable held.table
-sorted-held image held pool table is = subst IsTable (sym (is.table_is ∙ is.stands.table_is))
-    (is_table_in is.stands.seal is.stands.flat is.stands.whole)

@@ -3,7 +3,7 @@ use Rattle.pool_model.specs.Table.{TableState, found}
 use Rattle.pool_stats.specs.References.{standing_of}
 use Rattle.pool_stats.specs.declared.reference.Reference.{Reference}
 use Rattle.table_state.specs.Flat.{mark_of}
-use Rattle.table_state.specs.declared.slot_record.SlotRecord.{SlotRecord}
+use Rattle.slot_table.specs.declared.slot.SlotRecord.{SlotRecord}
 
 -- a slot's key, and how the table knows its pointer
 abbrev pub reference_in : TableState → SlotRecord → Reference

@@ -3,11 +3,9 @@
 //! A `Pool` of `table_state` has its slots and its table: of each slot the key, the kind, the place and the
 //! birth. A plain slot's pointer is outside the table; a flagged one's is counted where the home that the
 //! table finds for its key has the slot's place and birth and a count above 0, and is loose otherwise.
-//! `pool_stats` makes the numbers of that. No sector is read. The lists of a pool that an image stands for are
-//! sorted, so a home is found by a binary search in each of the three.
+//! `pool_stats` makes the numbers of that. No sector is read.
 #![tactic(auto)]
 
-mod homes;
 mod pool;
 mod slots;
 

@@ -17,6 +17,7 @@ pub fn stats_of_pool(alloc: Global, pool: &Pool) -> Result<Stats, AllocError>
     requires { IsSound pool.now }
     ensures { (image : Image) (p : PoolModel) (table : TableState) → IsHeld image pool.now p table → IfOk result (λ stats. stats ≡ stats_of p) }
 {
-    let references = references_in(alloc, &pool.table, pool.slots.as_slice())?;
+    let slots = pool.slots.slots(alloc)?;
+    let references = references_in(alloc, &pool.table, slots.as_slice())?;
     stats(alloc, references.as_slice())
 }

@@ -1,15 +1,14 @@
 ghost use Rattle.std.specs.Prelude.{◌≡◌, IfOk, map};
-ghost use Rattle.pool_model.specs.Table.{found, IsTable};
+ghost use Rattle.pool_model.specs.Table.{found};
 ghost use Rattle.pool_stats.specs.References.{standing_of};
 ghost use Rattle.table_state.specs.Flat.{mark_by, mark_of};
 ghost use Rattle.held_stats.specs.Slots.{reference_in};
 
-use crate::homes::found;
 use ddt_entry::{Home, SlotKind};
 use plain_table::PlainTable;
 use pool_stats::{Reference, Standing};
+use slot_table::SlotRecord;
 use std::alloc::{AllocError, Global};
-use table_state::SlotRecord;
 
 /// How the table knows a flagged pointer of this place and birth whose key has this home.
 fn standing_by(home: Option<Home>, place: u64, birth: u64) -> Standing
@@ -27,27 +26,27 @@ fn standing_by(home: Option<Home>, place: u64, birth: u64) -> Standing
     }
 }
 
-/// How a table whose lists are sorted knows what a slot holds.
+/// How the table knows what a slot holds.
 fn standing_in(table: &PlainTable, slot: &SlotRecord) -> Standing
-    ensures { IsTable table.now → result ≡ standing_of (mark_of slot.now.pointer.kind (found table.now slot.now.pointer.key) slot.now.pointer.place slot.now.pointer.birth) }
+    ensures { result ≡ standing_of (mark_of slot.now.pointer.kind (found table.now slot.now.pointer.key) slot.now.pointer.place slot.now.pointer.birth) }
 {
     match slot.pointer.kind {
         SlotKind::Plain => Standing::Plain,
         SlotKind::Flagged => standing_by(
-            found(table, &slot.pointer.key),
+            table.found(&slot.pointer.key),
             slot.pointer.place,
             slot.pointer.birth,
         ),
     }
 }
 
-/// What the slots hold, as the statistics see it by a table whose lists are sorted. The error is want of memory.
+/// What the slots hold, as the statistics see it by the table. The error is want of memory.
 pub fn references_in(
     alloc: Global,
     table: &PlainTable,
     slots: &[SlotRecord],
 ) -> Result<Vec<Reference>, AllocError>
-    ensures seen { IsTable table.now → IfOk result (λ references. references.items ≡ map (reference_in table.now) slots.now) }
+    ensures seen { IfOk result (λ references. references.items ≡ map (reference_in table.now) slots.now) }
     ensures keys { IfOk result (λ references. map (λ reference. reference.key) references.items ≡ map (λ slot. slot.pointer.key) slots.now) }
 {
     let mut references = Vec::new(alloc);

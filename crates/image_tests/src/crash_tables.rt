@@ -5,10 +5,10 @@ use crate::silent_disk::SilentDisk;
 use crate::sound_pool::{SoundPool, imported};
 use crate::syncs::{slots_for, two_hundred};
 use ddt_entry::Entry;
+use slot_table::SlotRecord;
 use std::alloc::Global;
 use std::process::Abort;
 use std::test::Fail;
-use table_state::SlotRecord;
 
 /// A disk with a pool of one pointer, behind the sync of a group of these slots and entries, of which every call
 /// from this one on fails. A sync that nothing disturbs makes so many calls.

@@ -4,10 +4,10 @@ use crate::silent_disk::{SilentDisk, small_disk};
 use crate::sound_pool::{SoundPool, created, imported};
 use ddt_entry::Entry;
 use pool_model::Closed;
+use slot_table::SlotRecord;
 use std::alloc::{AllocError, Global};
 use std::process::Abort;
 use std::test::Fail;
-use table_state::SlotRecord;
 
 /// The disk that a crash by this choice leaves.
 pub(crate) fn crashed(rt: &impl Abort, disk: SilentDisk, choice: u8) -> Result<SilentDisk, Fail> {

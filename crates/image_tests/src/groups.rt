@@ -2,10 +2,10 @@ use crate::comparing::assert_same_at;
 use crate::sound_pool::SoundPool;
 use ddt_entry::{Change, Entry, Home, Key, Pointer, SlotKind};
 use pool_model::{Block, ChangeList, Closed, Contents, Mode, SlotChange, SlotChanges, StoredBlock};
+use slot_table::SlotRecord;
 use std::alloc::{AllocError, Global};
 use std::process::Abort;
 use std::test::Fail;
-use table_state::SlotRecord;
 
 /// A key that differs from others in this byte.
 pub(crate) fn key(number: u8) -> Key {
@@ -92,8 +92,8 @@ pub(crate) fn assert_holds(
 ) -> Result<(), Fail> {
     let pool = &sound.pool;
     assert_same_at(rt, "the number of group", group, pool.sealed, group);
-    let held = pool.slots.as_slice();
-    assert_same_at(rt, "the slots of group", group, held, slots);
+    let held = pool.slots.slots(alloc)?;
+    assert_same_at(rt, "the slots of group", group, held.as_slice(), slots);
     let found = pool.table.entries_found(alloc)?;
     assert_same_at(rt, "the homes of group", group, found.as_slice(), entries);
     Ok(())

@@ -18,8 +18,9 @@ ghost use Rattle.image_tests.specs.Counts.{LeavesAtMost};
 use ddt_entry::{Change, Entry, MAX_BLOCK_BYTES, key_of};
 use plain_table::PlainTable;
 use pool_model::{Closed, SlotChange, StoredBlock};
+use slot_table::SlotRecord;
 use std::alloc::{AllocError, Global};
-use table_state::{Pool, SlotRecord, slot_fits};
+use table_state::{Pool, slot_fits};
 use txg_sync::slots_after;
 
 /// The first sector in which a block can lie.
@@ -74,20 +75,24 @@ fn counts_within(alloc: Global, pool: &Pool, closed: &Closed) -> Result<bool, Al
     let slots = slots_after(alloc, &pool.slots, closed.slots.as_slice())?;
     let table = pool.table.copied(alloc)?;
     let table = table.sync_table(alloc, closed.changes.as_slice())?;
-    Ok(table_counts(&table, slots.len()))
+    let within = table_counts(alloc, &table, slots.len())?;
+    Ok(within)
 }
 
-/// Whether each home of a table counts at most so many pointers.
-fn table_counts(table: &PlainTable, most: u64) -> bool
-    ensures { result ≡ true → (key : Key) (home : Home) → found table.now key ≡ Some home → home.count ≤ most }
+/// Whether each home of a table counts at most so many pointers. The error is want of memory.
+fn table_counts(alloc: Global, table: &PlainTable, most: u64) -> Result<bool, AllocError>
+    ensures { IfOk result (λ within. within ≡ true → (key : Key) (home : Home) → found table.now key ≡ Some home → home.count ≤ most) }
 {
-    if !entries_count(table.zap.as_slice(), most) {
-        return false;
+    let stored = table.zap.entries(alloc)?;
+    let flushing = table.flush.changes(alloc)?;
+    let active = table.active.changes(alloc)?;
+    if !entries_count(stored.as_slice(), most) {
+        return Ok(false);
     }
-    if !changes_count(table.flush.as_slice(), most) {
-        return false;
+    if !changes_count(flushing.as_slice(), most) {
+        return Ok(false);
     }
-    changes_count(table.active.as_slice(), most)
+    Ok(changes_count(active.as_slice(), most))
 }
 
 /// Whether each entry counts at most so many pointers.

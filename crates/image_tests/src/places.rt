@@ -6,10 +6,10 @@ use grant_book::SectorSet;
 use page_tree::RecordList;
 use plain_table::PlainTable;
 use pool_model::{Block, StoredBlock};
+use slot_table::SlotRecord;
 use std::alloc::{AllocError, Global};
 use std::process::Abort;
 use std::test::Fail;
-use table_state::SlotRecord;
 use txg_sync::{ChainPages, place_chains, used_after};
 
 /// A list of so many records.
@@ -105,12 +105,13 @@ const SLOT: SlotRecord = SlotRecord {
 #[test]
 fn the_ring_the_pages_and_the_slots_are_used(rt: HostRuntime) -> Result<(), Fail> {
     let table = PlainTable::new(rt.alloc());
+    let found = table.entries_found(rt.alloc())?;
     let used = used_after(
         rt.alloc(),
         40,
         [34, 33].as_slice(),
         [SLOT].as_slice(),
-        &table,
+        found.as_slice(),
     )?;
     assert_same(&rt, "free sectors", used.free(), 5);
     let free = used.free_places(rt.alloc(), 5)?.ok_or("five are free")?;

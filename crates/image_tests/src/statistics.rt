@@ -5,10 +5,10 @@ use crate::sound_pool::{SoundPool, created};
 use ddt_entry::{Entry, Pointer, SlotKind};
 use held_stats::stats_of_pool;
 use pool_model::{Bucket, Closed, Stats};
+use slot_table::SlotRecord;
 use std::alloc::{AllocError, Global};
 use std::process::Abort;
 use std::test::Fail;
-use table_state::SlotRecord;
 
 /// The statistics of a pool whose numbers are in their ranges.
 fn counted(alloc: Global, sound: &SoundPool) -> Result<Stats, AllocError> {

@@ -5,10 +5,10 @@ use crate::sound_pool::{SoundPool, created, imported};
 use ddt_entry::Entry;
 use disk_model::Disk;
 use pool_model::{Closed, Mode};
+use slot_table::SlotRecord;
 use std::alloc::Global;
 use std::process::Abort;
 use std::test::Fail;
-use table_state::SlotRecord;
 
 /// A pool with its disk, and what was put into it, in rising order.
 #[derive(Drop)]
@@ -67,7 +67,7 @@ fn put(
     slots: &[SlotRecord],
     homes: &[Entry],
     pages: u64,
-) -> Result<[usize; 3], Fail> {
+) -> Result<[u64; 3], Fail> {
     let closed = with_settings(alloc, group, slots, homes)?;
     note_group(filled, slots, homes)?;
     sync_group(rt, alloc, filled, group, &closed);
@@ -98,7 +98,7 @@ fn import_put(
     closed: &Closed,
     group: u64,
     pages: u64,
-) -> Result<[usize; 3], Fail> {
+) -> Result<[u64; 3], Fail> {
     let again = imported(rt, alloc, &mut filled.disk)?;
     assert_put(rt, alloc, filled, &again, group, pages)?;
     settings_are(rt, &again, closed);
@@ -106,7 +106,7 @@ fn import_put(
 }
 
 /// How many entries the stored table of a pool has, and how many changes its flushing and its active log.
-fn lengths(sound: &SoundPool) -> [usize; 3] {
+fn lengths(sound: &SoundPool) -> [u64; 3] {
     let table = &sound.pool.table;
     [table.zap.len(), table.flush.len(), table.active.len()]
 }
@@ -235,7 +235,7 @@ fn what_was_synced_is_imported(rt: HostRuntime) -> Result<(), Fail> {
 
 /// How many entries and changes the table has after groups 3 to 10 that put nothing in: stored ones, flushing ones,
 /// active ones. The eighth group makes the active log the flushing one, and the ninth flushes it.
-const SWAPPED_AND_FLUSHED: [(u64, [usize; 3]); 8] = [
+const SWAPPED_AND_FLUSHED: [(u64, [u64; 3]); 8] = [
     (3, [0, 0, 1]),
     (4, [0, 0, 1]),
     (5, [0, 0, 1]),
@@ -252,7 +252,7 @@ fn put_nothing(
     alloc: Global,
     filled: &mut Filled,
     group: u64,
-    wanted: [usize; 3],
+    wanted: [u64; 3],
 ) -> Result<(), Fail> {
     let told = put(rt, alloc, filled, group, &[], &[], 2)?;
     assert_same_at(rt, "the table after group", group, told, wanted);
@@ -268,7 +268,8 @@ fn assert_flushed(
 ) -> Result<(), Fail> {
     let last = imported(rt, alloc, &mut filled.disk)?;
     let table = &last.pool.table;
-    assert_same(rt, "the table", table.zap.as_slice(), [home].as_slice());
+    let stored = table.zap.entries(alloc)?;
+    assert_same(rt, "the table", stored.as_slice(), [home].as_slice());
     assert_same(rt, "the flushes", table.age, 1);
     Ok(())
 }

@@ -1,10 +1,11 @@
 use ddt_entry::{Change, Entry, Home, Key, Pointer, SlotKind, write_change};
 use disk_model::{Disk, MemDisk};
 use page_tree::{PagePtr, write_chain};
+use slot_table::SlotRecord;
 use std::alloc::{AllocError, Global};
 use std::process::Abort;
 use std::test::Fail;
-use table_state::{SlotRecord, new_seal, write_slot};
+use table_state::{new_seal, write_slot};
 use uber_ring::Seal;
 
 /// The 72 bytes of a slot or of a change.

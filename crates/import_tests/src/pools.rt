@@ -9,6 +9,7 @@ use disk_model::MemDisk;
 use grant_book::SectorSet;
 use pool_import::import;
 use pool_model::Mode;
+use std::alloc::Global;
 use std::process::Abort;
 use std::test::Fail;
 use table_state::{Pool, new_seal};
@@ -58,12 +59,15 @@ fn a_new_pool_is_imported_empty(rt: HostRuntime) -> Result<(), Fail> {
 }
 
 /// Sees that a pool is the one with one pointer.
-fn assert_has_one(rt: &impl Abort, pool: &Pool) {
+fn assert_has_one(rt: &impl Abort, alloc: Global, pool: &Pool) -> Result<(), Fail> {
     let (slots, homes) = ([slot(7, 1, 100)], [entry(1, 100, 1)]);
-    assert_same(rt, "slots", pool.slots.as_slice(), slots.as_slice());
-    assert_same(rt, "homes", pool.table.zap.as_slice(), homes.as_slice());
+    let held = pool.slots.slots(alloc)?;
+    assert_same(rt, "slots", held.as_slice(), slots.as_slice());
+    let stored = pool.table.zap.entries(alloc)?;
+    assert_same(rt, "homes", stored.as_slice(), homes.as_slice());
     assert_same(rt, "pages", pool.pages.as_slice(), [50, 49].as_slice());
     assert_same(rt, "the used sectors", used_of(rt, &pool.used), (35, 100));
+    Ok(())
 }
 
 #[test]
@@ -71,8 +75,7 @@ fn a_pointer_and_its_home_are_imported(rt: HostRuntime) -> Result<(), Fail> {
     let mut disk = small_disk(rt.alloc())?;
     let seal = of_one_pointer(&rt, &mut disk)?;
     let pool = imported(&rt, rt.alloc(), &mut disk, &seal)?;
-    assert_has_one(&rt, &pool);
-    Ok(())
+    assert_has_one(&rt, rt.alloc(), &pool)
 }
 
 /// The seal of a pool in which two slots share a block, a home waits, and a key has gone.
@@ -93,13 +96,16 @@ fn of_shared_and_waiting(rt: &impl Abort, disk: &mut MemDisk) -> Result<Seal, Fa
 }
 
 /// Sees that a pool is that one.
-fn assert_has_shared(rt: &impl Abort, pool: &Pool) {
+fn assert_has_shared(rt: &impl Abort, alloc: Global, pool: &Pool) -> Result<(), Fail> {
     let slots = [slot(7, 1, 100), slot(8, 1, 100)];
     let homes = [entry(1, 100, 2)];
-    assert_same(rt, "slots", pool.slots.as_slice(), slots.as_slice());
-    assert_same(rt, "homes", pool.table.zap.as_slice(), homes.as_slice());
+    let held = pool.slots.slots(alloc)?;
+    assert_same(rt, "slots", held.as_slice(), slots.as_slice());
+    let stored = pool.table.zap.entries(alloc)?;
+    assert_same(rt, "homes", stored.as_slice(), homes.as_slice());
     assert_same(rt, "changes", pool.table.active.len(), 2);
     assert_same(rt, "the used sectors", used_of(rt, &pool.used), (37, 101));
+    Ok(())
 }
 
 #[test]
@@ -107,8 +113,7 @@ fn a_shared_and_a_waiting_home_are_imported(rt: HostRuntime) -> Result<(), Fail>
     let mut disk = small_disk(rt.alloc())?;
     let seal = of_shared_and_waiting(&rt, &mut disk)?;
     let pool = imported(&rt, rt.alloc(), &mut disk, &seal)?;
-    assert_has_shared(&rt, &pool);
-    Ok(())
+    assert_has_shared(&rt, rt.alloc(), &pool)
 }
 
 /// The seal of an empty pool of group 17 with settings.
@@ -166,12 +171,15 @@ fn with_checkpoint(seal: Seal) -> Seal {
 }
 
 /// Sees that a pool has the logs of that one.
-fn assert_has_logs(rt: &impl Abort, pool: &Pool) {
+fn assert_has_logs(rt: &impl Abort, alloc: Global, pool: &Pool) -> Result<(), Fail> {
     let (active, flushing) = ([Change::Gone(key(2))], [Change::Gone(key(3))]);
     let table = &pool.table;
-    assert_same(rt, "active", table.active.as_slice(), active.as_slice());
-    assert_same(rt, "flushing", table.flush.as_slice(), flushing.as_slice());
+    let last = table.active.changes(alloc)?;
+    assert_same(rt, "active", last.as_slice(), active.as_slice());
+    let left = table.flush.changes(alloc)?;
+    assert_same(rt, "flushing", left.as_slice(), flushing.as_slice());
     assert_same(rt, "the checkpoint", table.checkpoint, Some(key(1)));
+    Ok(())
 }
 
 /// Sees that the logs of a pool keep these changes.
@@ -185,7 +193,7 @@ fn a_flushing_log_is_left_past_its_checkpoint(rt: HostRuntime) -> Result<(), Fai
     let mut disk = small_disk(rt.alloc())?;
     let seal = of_a_flushing_log(&rt, &mut disk)?;
     let pool = imported(&rt, rt.alloc(), &mut disk, &seal)?;
-    assert_has_logs(&rt, &pool);
+    assert_has_logs(&rt, rt.alloc(), &pool)?;
     let [first, second, third] = [1, 2, 3].map(|byte| Change::Gone(key(byte)));
     assert_keeps(&rt, &pool, &[second], &[first, second, third]);
     Ok(())
@@ -208,14 +216,16 @@ fn of_a_key_logged_twice(rt: &impl Abort, disk: &mut MemDisk) -> Result<Seal, Fa
 }
 
 /// Sees that a pool is that one, with the last home of the key.
-fn assert_has_last(rt: &impl Abort, pool: &Pool) {
+fn assert_has_last(rt: &impl Abort, alloc: Global, pool: &Pool) -> Result<(), Fail> {
     let twice = entry(1, 100, 2);
     let last = [Change::Entry(twice), Change::Gone(key(3))];
-    assert_same(rt, "active", pool.table.active.as_slice(), last.as_slice());
+    let active = pool.table.active.changes(alloc)?;
+    assert_same(rt, "active", active.as_slice(), last.as_slice());
     assert_same(rt, "flushing", pool.table.flush.len(), 0);
     let found = pool.table.found(&key(1));
     assert_same(rt, "the home", found, Some(twice.home));
     assert_same(rt, "the used sectors", used_of(rt, &pool.used), (35, 100));
+    Ok(())
 }
 
 #[test]
@@ -223,7 +233,7 @@ fn a_key_that_is_logged_twice_has_its_last_home(rt: HostRuntime) -> Result<(), F
     let mut disk = small_disk(rt.alloc())?;
     let seal = of_a_key_logged_twice(&rt, &mut disk)?;
     let pool = imported(&rt, rt.alloc(), &mut disk, &seal)?;
-    assert_has_last(&rt, &pool);
+    assert_has_last(&rt, rt.alloc(), &pool)?;
     let (once, twice) = (entry(1, 100, 1), entry(1, 100, 2));
     let logged = [
         Change::Entry(once),
@@ -262,16 +272,19 @@ fn of_a_key_flushing_twice(rt: &impl Abort, disk: &mut MemDisk) -> Result<Seal, 
 }
 
 /// Sees that a pool is that one, with the last home of each key.
-fn assert_has_left(rt: &impl Abort, pool: &Pool) {
+fn assert_has_left(rt: &impl Abort, alloc: Global, pool: &Pool) -> Result<(), Fail> {
     let (twice, waiting) = (entry(2, 101, 2), entry(3, 102, 0));
     let (active, flushing) = ([Change::Entry(waiting)], [Change::Entry(twice)]);
     let table = &pool.table;
-    assert_same(rt, "active", table.active.as_slice(), active.as_slice());
-    assert_same(rt, "flushing", table.flush.as_slice(), flushing.as_slice());
+    let last = table.active.changes(alloc)?;
+    assert_same(rt, "active", last.as_slice(), active.as_slice());
+    let left = table.flush.changes(alloc)?;
+    assert_same(rt, "flushing", left.as_slice(), flushing.as_slice());
     let found = [1, 2, 3].map(|byte| table.found(&key(byte)));
     let homes = [entry(1, 100, 1), twice, waiting].map(|entry| Some(entry.home));
     assert_same(rt, "the homes", found, homes);
     assert_same(rt, "the used sectors", used_of(rt, &pool.used), (39, 102));
+    Ok(())
 }
 
 /// Sees that its logs keep all that was appended, also what is flushed.
@@ -291,7 +304,7 @@ fn a_key_that_is_flushing_twice_has_its_last_home(rt: HostRuntime) -> Result<(),
     let mut disk = small_disk(rt.alloc())?;
     let seal = of_a_key_flushing_twice(&rt, &mut disk)?;
     let pool = imported(&rt, rt.alloc(), &mut disk, &seal)?;
-    assert_has_left(&rt, &pool);
+    assert_has_left(&rt, rt.alloc(), &pool)?;
     assert_keeps_all(&rt, &pool);
     Ok(())
 }

@@ -11,7 +11,7 @@ use Rattle.ddt_entry.specs.Keys.{key_eq}
 use Rattle.disk_model.specs.Images.{Image}
 use Rattle.pool_model.specs.declared.closed.SlotChange.{SlotChange}
 use Rattle.pool_model.specs.Pool.{Pointer, is_tracked, since_of, is_at, tracks, insert_pointer, comes_before}
-use Rattle.pool_model.specs.Table.{entry_at}
+use Rattle.pool_model.specs.Table.{entry_at, set_entry}
 use Rattle.pool_model.specs.Command.{Course, home_at, or_in}
 use Rattle.pool_model.specs.Group.{Standing, opening_of}
 use Rattle.table_state.specs.Pools.{Held}
@@ -19,9 +19,9 @@ use Rattle.table_state.specs.Slots.{change_to}
 use Rattle.pool_model.proofs.Pointers.{filter_insert}
 use Rattle.pool_model.proofs.Homes.{left_by, home_now, left_by-later, home_now-later}
 use Rattle.pool_model.proofs.Putting.{home_of, home_of-known}
-use Rattle.lane_run.specs.Live.{Live, is_change_at, or_below, home_here, put_home}
+use Rattle.pool_model.proofs.Finding.{entry_at-set}
+use Rattle.lane_run.specs.Live.{Live, is_change_at, or_below, home_here}
 use Rattle.lane_run.specs.Going.{IsCourse}
-use Rattle.lane_run.proofs.PutHomes.{entry_at-put_home}
 use Rattle.pool_model.proofs.Keys.{any-insert}
 
 -- the home that the course knows, by its pointers
@@ -143,10 +143,10 @@ home_made later test p ps passes none =
 
 -- what is found of a key beside the table, when a home is put
 pub home_here-put : (below : Option Home) (entry : Entry) (homes : List Entry) (key : Key)
-    → or_below below (entry_at key (put_home entry homes)) ≡ cond (key_eq entry.key key) (Some entry.home)
+    → or_below below (entry_at key (set_entry entry homes)) ≡ cond (key_eq entry.key key) (Some entry.home)
     (or_below below (entry_at key homes))
 home_here-put below entry homes key =
-    ap (or_below below) (entry_at-put_home entry homes key)
+    ap (or_below below) (entry_at-set key entry homes)
     ∙ elim (key_eq entry.key key) as (λ b. or_below below (cond b (Some entry.home) (entry_at key homes)) ≡ cond b (Some entry.home)
     (or_below below (entry_at key homes))) [ true ↦ refl | false ↦ refl ]
 

@@ -6,10 +6,11 @@ use Rattle.std.proofs.lemmas.Bool.{or_parts}
 use Rattle.ddt_entry.specs.declared.entry.Pointer.{Pointer as SlotPointer}
 use Rattle.pool_model.specs.declared.closed.SlotChange.{SlotChange}
 use Rattle.pool_model.proofs.Lists.{all_from, filter_whole}
-use Rattle.table_state.specs.Flat.{stands_before}
-use Rattle.table_state.specs.Pools.{Held, is_slot_at, insert_slot, slot_with, set_slot, slots_after}
+use Rattle.slot_table.specs.Slots.{stands_before}
+use Rattle.slot_table.specs.Slots.{is_slot_at, insert_slot, slot_with, set_slot}
+use Rattle.table_state.specs.Pools.{Held, slots_after}
 use Rattle.table_state.specs.Sealed.{changed_slot}
-use Rattle.table_state.specs.declared.slot_record.SlotRecord.{SlotRecord}
+use Rattle.slot_table.specs.declared.slot.SlotRecord.{SlotRecord}
 use Rattle.table_state.proofs.SlotsAfter.{Makes, each_after}
 use Rattle.table_state.proofs.SlotsOf.{change_behind}
 use Rattle.table_state.proofs.UnusedOf.{each_fails}

@@ -24,7 +24,7 @@ use Rattle.pool_model.specs.Space.{need}
 use Rattle.uber_ring.specs.declared.seal.Seal.{Seal}
 use Rattle.table_state.specs.SealForms.{is_formed, has_size, has_flags, has_modes, has_checkpoint, fewest_sectors, most_sectors}
 use Rattle.table_state.specs.Pools.{Held, slots_after, pool_after, with_blocks, block_sector}
-use Rattle.table_state.specs.declared.slot_record.SlotRecord.{SlotRecord}
+use Rattle.slot_table.specs.declared.slot.SlotRecord.{SlotRecord}
 use Rattle.table_state.proofs.UsedLaws.{one_sector}
 use Rattle.table_state.specs.Closing.{CanSync, IsNamed, block_places, pool_with, table_after}
 use Rattle.table_state.proofs.RoomLaws.{need_enough}

@@ -9,7 +9,6 @@ pub mod Leaving
 pub mod Opened
 pub mod Openings
 pub mod Places
-pub mod PutHomes
 pub mod Ranges
 pub mod Spots
 pub mod Stored

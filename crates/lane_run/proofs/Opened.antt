@@ -14,8 +14,9 @@ use Rattle.pool_model.specs.Table.{TableState, found, counted_homes}
 use Rattle.pool_model.specs.Group.{Standing, opening_of, opened}
 use Rattle.pool_model.specs.Waiting.{IsIn}
 use Rattle.table_state.specs.Flat.{pointer_of, table_in}
-use Rattle.table_state.specs.Pools.{Held, is_slot_at}
-use Rattle.table_state.specs.declared.slot_record.SlotRecord.{SlotRecord}
+use Rattle.slot_table.specs.Slots.{is_slot_at}
+use Rattle.table_state.specs.Pools.{Held}
+use Rattle.slot_table.specs.declared.slot.SlotRecord.{SlotRecord}
 use Rattle.table_state.proofs.UsedLaws.{one_sector}
 use Rattle.table_state.specs.Slots.{slot_of}
 use Rattle.table_state.proofs.SlotsOf.{held_slots}

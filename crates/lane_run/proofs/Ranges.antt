@@ -25,13 +25,15 @@ use Rattle.table_state.specs.Closing.{block_places}
 use Rattle.table_state.specs.Pools.{Held, slots_after}
 use Rattle.table_state.specs.Sealed.{ChangesSlotWithin}
 use Rattle.table_state.specs.Sound.{IsSound}
-use Rattle.table_state.specs.declared.slot_record.SlotRecord.{SlotRecord}
+use Rattle.slot_table.specs.declared.slot.SlotRecord.{SlotRecord}
 use Rattle.table_state.proofs.SlotCounts.{length-rising}
 use Rattle.table_state.proofs.SlotLaws.{is_slot-true}
 use Rattle.table_state.proofs.SlotsAfter.{rising_after, within_after, within_later}
 use Rattle.table_state.specs.Slots.{slot_of, kept_of}
 use Rattle.table_state.proofs.UnusedOf.{found_unused}
-use Rattle.lane_run.specs.Live.{Live, or_below, home_here, first_mode, is_taken, write_of, put_home, put_at, with_first, brought, shared, after_row, IsHomeOf, IsReady, IsSince}
+use Rattle.pool_model.proofs.Sorted.{all_put}
+use Rattle.pool_model.proofs.TablePuts.{entries_put}
+use Rattle.lane_run.specs.Live.{Live, or_below, home_here, first_mode, is_taken, write_of, put_at, with_first, brought, shared, after_row, IsHomeOf, IsReady, IsSince}
 use Rattle.lane_run.proofs.Growing.{one_slot_more}
 use Rattle.lane_run.proofs.Places.{IsNew}
 use Rattle.lane_run.proofs.Openings.{entry_has, found_within}
@@ -118,13 +120,6 @@ is_ready held sectors places start i live sound on_disk few small ranged = recor
   keys = omega (arith, ranged.brought.keys_few, few, small);
   blocks = ranged.brought.blocks;
 }
-
-all_put_home : (P : Home → Type 0) (entry : Entry) (es : List Entry) → P entry.home → AllByRecursion (λ e. P e.home) es
-    → AllByRecursion (λ e. P e.home) (put_home entry es)
-all_put_home P entry [] here all = (here, tt)
-all_put_home P entry (e ∷ es) here all =
-    elim (key_eq e.key entry.key) as (λ b. AllByRecursion (λ x. P x.home)
-    (cond b (entry ∷ es) (e ∷ put_home entry es))) [ true ↦ (here, all.1) | false ↦ (all.0, all_put_home P entry es here all.1) ]
 
 -- ---- The next fresh place
 
@@ -288,7 +283,7 @@ module _ (held : Held) (places : List ℕ) (start i : ℕ) (live : Live) (was : 
           blocks = was.blocks;
           keys_few = omega (arith, was.keys_few, one_or_none (home.count == 0));
           homes =
-              all_put_home (Counted most) (shared key home mark) live.homes
+              all_put entries_put (λ e. Counted most e.home) (shared key home mark) live.homes
               (record {
                 start = counted.start;
                 end = counted.end;
@@ -338,7 +333,7 @@ module _ (held : Held) (places : List ℕ) (start i : ℕ) (live : Live) (was : 
             (with_first key place (held.group + 1) m live.homes)
         by_mark most more before plain at = before
         by_mark most more before (tracked since) at =
-            all_put_home (Counted most)
+            all_put entries_put (λ e. Counted most e.home)
             (record { key = key; home = record { place = place; birth = held.group + 1; since = since; count = 1 } })
             live.homes (record {
               start = from;

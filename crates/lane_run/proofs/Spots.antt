@@ -12,13 +12,14 @@ use Rattle.ddt_entry.specs.Keys.{key_eq}
 use Rattle.ddt_entry.proofs.KeyLaws.{key_eq-same, key_eq-true}
 use Rattle.disk_model.specs.Images.{Image, sector_at}
 use Rattle.pool_model.specs.Pool.{Pointer, Mark, plain, tracked, loose, is_tracked, since_of, is_at, run_length, tracks, tracked_at, keys_in, insert_pointer, with_pointer}
-use Rattle.pool_model.specs.Table.{found, counted, home_of_pointers}
+use Rattle.pool_model.specs.Table.{found, counted, home_of_pointers, set_entry}
 use Rattle.pool_model.specs.Plain.{Reply}
 use Rattle.pool_model.specs.Mirrors.{Stored}
 use Rattle.pool_model.specs.Clash.{HasNoOther, NoOther}
 use Rattle.pool_model.specs.Command.{Course, home_at, or_in, last_tracked, at_home, at_fresh, pointer_at, placed, naming, replied, next_fresh, take_fresh}
 use Rattle.pool_model.specs.Group.{Standing, opening_of}
-use Rattle.table_state.specs.Pools.{Held, is_slot_at, slots_after, set_slot, block_sector}
+use Rattle.slot_table.specs.Slots.{is_slot_at, set_slot}
+use Rattle.table_state.specs.Pools.{Held, slots_after, block_sector}
 use Rattle.table_state.specs.Closing.{IsNamed, block_places}
 use Rattle.table_state.specs.Slots.{slot_of, change_to}
 use Rattle.table_state.proofs.SlotsOf.{slot_set, change_behind}
@@ -30,7 +31,7 @@ use Rattle.pool_model.proofs.Rows.{FitsHome, FitsFresh, outside, first}
 use Rattle.pool_model.proofs.Putting.{left_of, home_of, home_of-known, untracked}
 use Rattle.table_state.specs.Over.{StandsOver}
 use Rattle.pool_model.proofs.Lists.{all_from, all_from_both}
-use Rattle.lane_run.specs.Live.{Live, home_here, sector_or, sector_here, first_mode, put_home, write_of, shared, with_first, put_at, noted}
+use Rattle.lane_run.specs.Live.{Live, home_here, sector_or, sector_here, first_mode, write_of, shared, with_first, put_at, noted}
 use Rattle.lane_run.proofs.Places.{IsNew, new_elsewhere, named_more, find_beside, find_new, any_last}
 use Rattle.lane_run.proofs.Openings.{waiting_is_used, homes_match}
 use Rattle.lane_run.specs.Going.{Trusted, Stands, IsPlaced, NoOtherThere, IsCourse}
@@ -145,7 +146,7 @@ module _ (key_of : List ℕ → Key) (image : Image) (held : Held) (s : Standing
       since_is : nat_lt 0 home.count ≡ true → since_of mark ≡ home.since
       since_is some = ap since_of (fits.shares some)
 
-      homes_on : (k : Key) → home_here held.table (put_home (shared (key_of content) home mark) live.homes) k
+      homes_on : (k : Key) → home_here held.table (set_entry (shared (key_of content) home mark) live.homes) k
           ≡ home_now (left_by (found s.table k) (last_tracked k (course.pool ∷ course.earlier))) (filter (tracks k) (insert_pointer p ps))
       homes_on k =
           home_here-put (found held.table k) (shared (key_of content) home mark) live.homes k ∙ by_key (key_eq (key_of content) k) refl
@@ -260,7 +261,7 @@ module _ (key_of : List ℕ → Key) (image : Image) (held : Held) (s : Standing
 
       homes_with : (since : ℕ) → is_tracked mark ≡ true → since_of mark ≡ since → (k : Key)
           → home_here held.table
-          (put_home (record {
+          (set_entry (record {
             key = key_of content;
             home = record { place = place; birth = s.pool.group + 1; since = since; count = 1 };
           }) live.homes) k ≡ later_home k

@@ -17,10 +17,11 @@ use Rattle.pool_model.specs.declared.closed.SlotChange.{SlotChange}
 use Rattle.pool_model.specs.Pool.{Mark, plain, tracked, loose, since_of, is_tracked, with_key}
 use Rattle.pool_model.specs.Plain.{Act, write, read, free, Task, Reply, to_write}
 use Rattle.pool_model.specs.Mirrors.{Stored}
-use Rattle.pool_model.specs.Table.{TableState, found, entry_at}
+use Rattle.pool_model.specs.Table.{TableState, found, entry_at, set_entry}
 use Rattle.pool_model.specs.Command.{Opening, Known, Spot, nowhere, at_home, at_fresh, Row, row, mode_row, is_fault, uses_table, pointer_at}
 use Rattle.pool_model.specs.Group.{settled, change_from}
-use Rattle.table_state.specs.Pools.{Held, is_slot_at, block_sector}
+use Rattle.slot_table.specs.Slots.{is_slot_at}
+use Rattle.table_state.specs.Pools.{Held, block_sector}
 use Rattle.table_state.specs.Closing.{PlainClosed}
 use Rattle.table_state.specs.Slots.{change_to}
 
@@ -87,11 +88,6 @@ row_here key_of image held live moment slot content failed =
 
 -- ---- What a write makes of it
 
--- homes with this one in its key's place
-abbrev pub put_home : Entry → List Entry → List Entry
-put_home entry [] = entry ∷ []
-put_home entry (e ∷ es) = if key_eq e.key entry.key then entry ∷ es else e ∷ put_home entry es
-
 abbrev pub write_of : (slot : ℕ) (content : List ℕ) → Task
 write_of slot content = record { lane = 0; slot = slot; act = write content }
 
@@ -108,7 +104,7 @@ shared key home mark =
 abbrev pub with_first : Key → (place birth : ℕ) → Mark → List Entry → List Entry
 with_first key place birth plain homes = homes
 with_first key place birth (tracked since) homes =
-    put_home (record { key = key; home = record { place = place; birth = birth; since = since; count = 1 } }) homes
+    set_entry (record { key = key; home = record { place = place; birth = birth; since = since; count = 1 } }) homes
 with_first key place birth loose homes = homes
 
 -- one pointer more at the spot's home can be counted
@@ -123,7 +119,7 @@ put_at number place slot key content live nowhere = live
 put_at number place slot key content live (at_home home mark) =
     record live {
       slots = live.slots ++ brought slot content key home.place home.birth mark ∷ [];
-      homes = put_home (shared key home mark) live.homes;
+      homes = set_entry (shared key home mark) live.homes;
       keys = live.keys + (if home.count == 0 then 1 else 0);
     }
 put_at number place slot key content live (at_fresh mark) =

@@ -1,25 +1,25 @@
-ghost use Rattle.std.specs.Prelude.{◌≡◌, ℕ, ◌+◌, ◌<◌, ◌^◌, ◌++◌, [], ◌∷◌, List, length, map, IfOk, OnOk, position};
+ghost use Rattle.std.specs.Prelude.{◌≡◌, ℕ, ◌+◌, ◌<◌, ◌^◌, ◌++◌, [], ◌∷◌, List, length, map, IfOk, OnOk};
 ghost use Rattle.std.specs.List.{list_any};
-ghost use Rattle.ddt_entry.specs.Keys.{key_eq};
 ghost use Rattle.pool_model.specs.Pool.{tracked};
 ghost use Rattle.pool_model.specs.Plain.{reply_of, to_write};
 ghost use Rattle.pool_model.specs.Mirrors.{stored_of};
 ghost use Rattle.pool_model.specs.Command.{at_home, at_fresh};
 ghost use Rattle.table_state.specs.Slots.{kind_of};
 ghost use Rattle.home_rules.specs.Rows.{mark_since, spot_of};
-ghost use Rattle.table_state.specs.Pools.{is_slot_at};
-ghost use Rattle.lane_run.specs.Live.{home_here, put_home, put_at, brought, with_first, noted, is_taken, is_change_at, IsShareable};
+ghost use Rattle.slot_table.specs.Slots.{is_slot_at};
+ghost use Rattle.lane_run.specs.Live.{home_here, put_at, brought, with_first, noted, is_taken, is_change_at, IsShareable};
 
-use ddt_entry::{Entry, Home, Key, Pointer, SlotKind};
+use ddt_entry::{Home, Key, Pointer, SlotKind};
 use home_rules::Spot;
-use plain_table::entry_at;
+use plain_table::HomeMap;
 use pool_model::{
     Answers, Block, CommandAnswer, Contents, SlotChange, SlotChanges, StoredBlock, WriteAnswer,
 };
 use reserved_list::ReservedList;
+use slot_table::{SlotMap, SlotPlace};
 use std::alloc::{AllocError, Global};
 use std::marker::Model;
-use table_state::{Pool, SlotRecord};
+use table_state::Pool;
 
 /// What a group has come to, beside the pool as the newest sealed group left it.
 #[derive(Drop)]
@@ -29,7 +29,7 @@ pub struct LiveGroup {
     /// The blocks that were stored, each at the next fresh place.
     pub contents: Contents,
     /// The homes that the group made or changed, each key once.
-    pub homes: Vec<Entry>,
+    pub homes: HomeMap,
     /// The keys that were named, in the order of the writes.
     pub named: Vec<Key>,
     /// How many keys are counted.
@@ -48,7 +48,7 @@ impl Model for LiveGroup {
     ghost view = { λ live. record {
       slots = live.slots.items;
       contents = map stored_of live.contents.items;
-      homes = live.homes.items;
+      homes = live.homes;
       named = live.named.items;
       keys = live.keys;
       replies = map reply_of live.answers.items;
@@ -64,30 +64,11 @@ fn append<T: Drop>(list: &mut ReservedList<T>, value: T) -> Result<(), AllocErro
     Ok(())
 }
 
-/// Homes with this one in its key's place.
-fn put_home(mut homes: Vec<Entry>, entry: Entry) -> Result<Vec<Entry>, AllocError>
-    ensures { IfOk result (λ put. put.items ≡ put_home entry homes.items) }
-{
-    let Some(at) = place_of(homes.as_slice(), &entry.key) else {
-        homes.push(entry)?;
-        return Ok(homes);
-    };
-    homes[at] = entry;
-    Ok(homes)
-}
-
-/// Where the home of a key stands.
-fn place_of(homes: &[Entry], key: &Key) -> Option<usize>
-    ensures { result ≡ position (λ entry. key_eq entry.key key.now) homes.now }
-{
-    homes.iter().position(|entry| entry.key == *key)
-}
-
 /// Whether a slot of lane 0 holds a pointer in the pool.
-fn is_held(slots: &[SlotRecord], slot: u32) -> bool
+fn is_held(slots: &SlotMap, slot: u32) -> bool
     ensures { result ≡ list_any (is_slot_at 0 slot) slots.now }
 {
-    slots.iter().any(|held| held.lane == 0 && held.slot == slot)
+    slots.get(SlotPlace { lane: 0, slot }).is_some()
 }
 
 /// Whether the group brought a pointer to a slot of lane 0.
@@ -125,8 +106,6 @@ impl LiveGroup {
         slots.reserve(room)?;
         let mut contents = Contents::new(alloc);
         contents.reserve(room)?;
-        let mut homes = Vec::new(alloc);
-        homes.reserve(room as usize)?;
         let mut named = Vec::new(alloc);
         named.reserve(room as usize)?;
         let mut answers = Answers::new(alloc);
@@ -134,7 +113,7 @@ impl LiveGroup {
         Ok(LiveGroup {
             slots,
             contents,
-            homes,
+            homes: HomeMap::new(alloc),
             named,
             keys,
             answers,
@@ -145,7 +124,7 @@ impl LiveGroup {
     pub fn home_of(&self, pool: &Pool, key: &Key) -> Option<Home>
         ensures { result ≡ home_here pool.now.table self.now.homes key.now }
     {
-        match entry_at(self.homes.as_slice(), key) {
+        match self.homes.find(key) {
             Some(home) => Some(home),
             None => pool.table.found(key),
         }
@@ -155,7 +134,7 @@ impl LiveGroup {
     pub fn is_taken(&self, pool: &Pool, slot: u32) -> bool
         ensures { result ≡ is_taken pool.now self.now slot }
     {
-        is_held(pool.slots.as_slice(), slot) || is_brought(self.slots.as_slice(), slot)
+        is_held(&pool.slots, slot) || is_brought(self.slots.as_slice(), slot)
     }
 
     /// With a pointer at a home that the key has, counted since this moment. The error is want of memory.
@@ -181,7 +160,7 @@ impl LiveGroup {
             count: home.count + 1,
             ..home
         };
-        self.homes = put_home(self.homes, Entry { key, home })?;
+        self.homes.set(&key, home)?;
         Ok(self)
     }
 
@@ -212,7 +191,7 @@ impl LiveGroup {
             count: 1,
         };
         self.keys += 1;
-        self.homes = put_home(self.homes, Entry { key, home })?;
+        self.homes.set(&key, home)?;
         Ok(self)
     }
 

@@ -9,7 +9,8 @@ use Rattle.ddt_entry.specs.declared.key.Key.{Key}
 use Rattle.ddt_entry.specs.declared.entry.Entry.{Entry}
 use Rattle.ddt_entry.specs.declared.entry.Change.{Change}
 use Rattle.pool_model.specs.Table.{flush_entry, checkpoint_after}
-use Rattle.pool_model.specs.Logs.{emptied, reached}
+use Rattle.pool_model.specs.Logs.{emptied_log}
+use Rattle.pool_model.specs.Replaying.{reached}
 use Rattle.pool_model.proofs.Replays.{checkpoint_reached, emptied-more, nothing_behind}
 use Rattle.log_pair.specs.Paired.{Paired, popped, emptied_pair}
 use Rattle.log_flush.specs.Flushing.{freed_by, freed_in, Stage, stage_of, first_flushed, so_flushed, finished, IsSecondStep}
@@ -82,11 +83,11 @@ finished-more logs next rest checkpoint =
 
 finished_as : (logs : Paired) (left rest : List Change) → (left ≡ [] → rest ≡ [])
     → finished (logs_of logs rest (reached logs.checkpoint left))
-    ≡ record { active = logs.active; flush = rest; logs = emptied rest logs.logs; checkpoint = checkpoint_after left rest }
+    ≡ record { active = logs.active; flush = rest; logs = emptied_log rest logs.logs; checkpoint = checkpoint_after left rest }
 finished_as logs left [] some = refl
 finished_as logs [] (next ∷ rest) some = absurd (cc (some refl))
 finished_as logs (change ∷ left) (next ∷ rest) some =
-    let kept : logs.logs ≡ emptied (next ∷ rest) logs.logs = sym (emptied-more next rest logs.logs) in
+    let kept : logs.logs ≡ emptied_log (next ∷ rest) logs.logs = sym (emptied-more next rest logs.logs) in
     let told : reached logs.checkpoint (change ∷ left) ≡ checkpoint_after (change ∷ left) (next ∷ rest) =
     sym (checkpoint_reached logs.checkpoint change left next rest) in
     finished-more logs next rest (reached logs.checkpoint (change ∷ left))

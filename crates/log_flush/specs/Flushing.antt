@@ -5,7 +5,8 @@ use Rattle.ddt_entry.specs.declared.entry.Entry.{Entry}
 use Rattle.ddt_entry.specs.declared.entry.Change.{Change}
 use Rattle.ddt_entry.specs.declared.entry.Change.TheVariants as changes
 use Rattle.pool_model.specs.Table.{TableState, empty_table, flush_entry, flushed}
-use Rattle.pool_model.specs.Logs.{reached, emptied}
+use Rattle.pool_model.specs.Logs.{emptied_log}
+use Rattle.pool_model.specs.Replaying.{reached}
 use Rattle.log_pair.specs.Paired.{Paired, of_table, popped, emptied_pair}
 
 -- the place that a record releases as it leaves: that of a home that no pointer is counted under
@@ -58,4 +59,4 @@ table_with zap logs = record empty_table { zap = zap; flush = logs.flush; active
 -- the stored table and the logs are those of the table after its flush
 pub record IsSecondStep (limit : ℕ) (zap : List Entry) (logs : Paired) (new_zap : List Entry) (new_logs : Paired) : Type 0 where
   pub zap_is : new_zap ≡ (flushed limit (table_with zap logs)).zap
-  pub logs_are : new_logs ≡ of_table (flushed limit (table_with zap logs)) (emptied (drop limit logs.flush) logs.logs)
+  pub logs_are : new_logs ≡ of_table (flushed limit (table_with zap logs)) (emptied_log (drop limit logs.flush) logs.logs)

@@ -10,7 +10,7 @@
 //! The last key that left is the checkpoint, and the log keeps its records until the list is empty. Then it
 //! is emptied here, and has no checkpoint.
 //!
-//! The sync of a pool stands on this crate.
+//! The sync of a later pool will stand on this crate; the program doesn't use it yet.
 #![tactic(auto)]
 
 mod flushing;

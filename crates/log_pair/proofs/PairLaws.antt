@@ -1,14 +1,13 @@
 -- The lists of a pair stay what its logs are replayed to, and its calls are steps of a table's sync.
-use Rattle.std.proofs.Common.{◌≡◌, ℕ, ◌+◌, ◌<◌, Bool, true, false, List, [], ◌∷◌, length, take, get_or, append-nil, fold, Option, None, refl, sym, ap, ◌∙◌}
+use Rattle.std.proofs.Common.{◌≡◌, Bool, true, false, List, [], ◌∷◌, append-nil, fold, None, refl, sym, ap, ◌∙◌}
 use Rattle.std.specs.Prelude.{if◌then◌else◌}
-use Rattle.std.proofs.lemmas.List.{append_assoc, take_more}
+use Rattle.std.proofs.lemmas.List.{append_assoc}
 use Rattle.ddt_entry.specs.Changes.{key_in}
-use Rattle.ddt_entry.specs.declared.key.Key.{Key}
 use Rattle.ddt_entry.specs.declared.entry.Change.{Change}
-use Rattle.pool_model.specs.Table.{TableState, set_change, log_change, logged, is_due, aged, swapped}
+use Rattle.pool_model.specs.Table.{TableState, log_change, logged, is_due, aged, swapped}
 use Rattle.pool_model.specs.Logs.{Logs, last_changes, is_left, left_in, appended, exchanged}
 use Rattle.pool_model.proofs.Lists.{all_each, filter_whole}
-use Rattle.pool_model.proofs.Replays.{log_change_replays, left_in-first, left_in-push}
+use Rattle.pool_model.proofs.Replays.{log_change_replays, left_in-first}
 use Rattle.log_object.specs.Logged.{Logged, with_checkpoint}
 use Rattle.log_pair.specs.Paired.{Paired, pair_of, as_table, IsReplayed, of_table, with_change, flush_from, swapped_pair}
 
@@ -37,18 +36,6 @@ exchanged-replayed active flush active_log flushing_log none emptied is = record
       (all_each (λ c. is_left None [] (key_in c) ≡ true) (λ c. refl) (last_changes active_log.changes)))
       ∙ ap (λ (log : List Change). left_in None (last_changes log) active_log.changes) (sym emptied);
 }
-
--- ---- What is left of a log, read change by change
-
-pub left_more : (checkpoint : Option Key) (active log : List Change) (i : ℕ) (d : Change) {left new : List Change} → i < length log
-    → left ≡ left_in checkpoint active (take i log)
-    → new ≡ (if is_left checkpoint active (key_in (get_or log i d)) then set_change (get_or log i d) left else left)
-    → new ≡ left_in checkpoint active (take (i + 1) log)
-left_more checkpoint active log i d {left} within so_far is =
-    is
-    ∙ ap (λ (ys : List Change). if is_left checkpoint active (key_in (get_or log i d)) then set_change (get_or log i d) ys else ys) so_far
-    ∙ sym (left_in-push checkpoint active (take i log) (get_or log i d))
-    ∙ ap (left_in checkpoint active) (sym (take_more log i d within))
 
 -- ---- The calls as steps of a table's sync
 

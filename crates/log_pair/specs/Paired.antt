@@ -4,7 +4,8 @@ use Rattle.ddt_entry.specs.Changes.{key_in}
 use Rattle.ddt_entry.specs.declared.key.Key.{Key}
 use Rattle.ddt_entry.specs.declared.entry.Change.{Change}
 use Rattle.pool_model.specs.Table.{TableState, empty_table, set_change, drop_change}
-use Rattle.pool_model.specs.Logs.{Logs, replayed, appended, Replays}
+use Rattle.pool_model.specs.Logs.{Logs, appended}
+use Rattle.pool_model.specs.Replaying.{replayed, Replays}
 use Rattle.log_object.specs.Logged.{Logged}
 
 -- the two lists, each sorted by key, the two logs as they were appended, and how far the flushing log has been flushed
@@ -49,10 +50,6 @@ with_change change pair = record {
   logs = appended (change ∷ []) pair.logs;
   checkpoint = pair.checkpoint;
 }
-
-abbrev pub first : List Change → Option Change
-first [] = None
-first (change ∷ rest) = Some change
 
 abbrev pub flush_from : Paired → (flush : List Change) → Paired
 flush_from pair [] = pair

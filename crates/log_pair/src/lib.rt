@@ -12,7 +12,7 @@
 //! is emptied or swapped loses it. At every moment the lists are what the logs are replayed to; this is
 //! the type's invariant, and `replays` tells it.
 //!
-//! Each list is an ordered map, so that a key is looked up, set and dropped in logarithmic time.
+//! Each list is an ordered map (`plain_table::ChangeMap`), so that a key is looked up, set and dropped in logarithmic time.
 //! `walk` goes over a list in key order in time that is its length; `change` finds the change at an
 //! index, and steps over all that stand before it.
 //!
@@ -20,8 +20,6 @@
 //! the calls to the steps of the table's sync.
 #![tactic(auto)]
 
-mod change_map;
 mod pair;
-mod replaying;
 
 pub use pair::LogPair;

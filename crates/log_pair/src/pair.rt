@@ -4,14 +4,14 @@ ghost use Rattle.std.specs.Map.Iter.{ShowsInOrder, deref};
 ghost use Rattle.ddt_entry.specs.declared.entry.Change.{Change as Changed};
 ghost use Rattle.page_tree.specs.declared.fault.PageFault.TheVariants.{Memory};
 ghost use Rattle.pool_model.specs.Table.{change_at};
-ghost use Rattle.log_pair.specs.Paired.{IsReplayed, of_logs, with_change, first, popped, emptied_pair, swapped_pair, list_at, log_at};
+ghost use Rattle.plain_table.specs.Keyed.{first};
+ghost use Rattle.log_pair.specs.Paired.{IsReplayed, of_logs, with_change, popped, emptied_pair, swapped_pair, list_at, log_at};
 
-use crate::change_map::ChangeMap;
-use crate::replaying::{last_changes, left_in};
 use ddt_entry::{Change, Key, key_of};
 use disk_model::Disk;
 use log_object::LogObject;
 use page_tree::{PageFault, PageReader};
+use plain_table::{ChangeMap, last_changes, left_in};
 use std::alloc::Global;
 use std::collections::btree_map::Values;
 use std::marker::Model;

@@ -1,2 +1,5 @@
+pub mod HomeLists
+pub mod Entries
+pub mod Undo
+pub mod Replayed
 pub mod NextLogs
-pub mod Sets

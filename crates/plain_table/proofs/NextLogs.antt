@@ -4,13 +4,13 @@ use Rattle.std.specs.Prelude.{◌==◌, if◌then◌else◌}
 use Rattle.std.proofs.lemmas.Bool.Decides.{nat_tests}
 use Rattle.ddt_entry.specs.declared.entry.Change.{Change}
 use Rattle.pool_model.specs.Table.{TableState, logged, flushed, flush_limit, is_due, aged, swapped, sync_table}
-use Rattle.pool_model.specs.Logs.{Logs, appended, emptied, exchanged, settled, logs_after}
+use Rattle.pool_model.specs.Logs.{Logs, appended, emptied_log, exchanged, logs_settled, logs_after}
 use Rattle.plain_table.specs.Logged.{logs_by}
 
 older : (age : ℕ) → (min (age + 1) (2 ^ 64 - 1) == 0) ≡ false
 older age = grind (arith, nat_tests)
 
-emptied_keeps : (flush : List Change) (logs : Logs) → (emptied flush logs).active ≡ logs.active
+emptied_keeps : (flush : List Change) (logs : Logs) → (emptied_log flush logs).active ≡ logs.active
 emptied_keeps flush logs = by_test (length flush == 0)
   where
     by_test : (b : Bool) → (if b then record { active = logs.active; flushing = [] } else logs).active ≡ logs.active
@@ -19,7 +19,7 @@ emptied_keeps flush logs = by_test (length flush == 0)
 
 -- once the logs may swap
 settled_by : (changes : List Change) (table : TableState) (logs : Logs)
-    → logs_by (swapped table) changes logs ≡ settled table (appended changes logs)
+    → logs_by (swapped table) changes logs ≡ logs_settled table (appended changes logs)
 settled_by changes table logs = by_due (is_due (aged table))
   where
     after : Bool → TableState
@@ -28,10 +28,10 @@ settled_by changes table logs = by_due (is_due (aged table))
     same_active : (l m : Logs) → l.active ≡ m.active → exchanged true l ≡ exchanged true m
     same_active l m same = ap (λ (log : List Change). record { active = []; flushing = log }) same
 
-    by_due : (b : Bool) → logs_by (after b) changes logs ≡ exchanged b (emptied table.flush (appended changes logs))
-    by_due true = same_active (emptied table.active (appended changes logs)) (emptied table.flush (appended changes logs))
+    by_due : (b : Bool) → logs_by (after b) changes logs ≡ exchanged b (emptied_log table.flush (appended changes logs))
+    by_due true = same_active (emptied_log table.active (appended changes logs)) (emptied_log table.flush (appended changes logs))
         (emptied_keeps table.active (appended changes logs) ∙ sym (emptied_keeps table.flush (appended changes logs)))
-    by_due false = ap (λ b. exchanged b (emptied table.flush (appended changes logs))) (older table.age)
+    by_due false = ap (λ b. exchanged b (emptied_log table.flush (appended changes logs))) (older table.age)
 
 -- they are those of the definitions
 pub logs_are_by : (changes : List Change) (table : TableState) (logs : Logs)

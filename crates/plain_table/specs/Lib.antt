@@ -1,2 +1,4 @@
+pub mod HomeLists
+pub mod Keyed
 pub mod Logged
 pub mod Tables

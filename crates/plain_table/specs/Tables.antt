@@ -4,4 +4,4 @@ use Rattle.plain_table.specs.declared.table.PlainTable.TheInside.{Inside}
 
 abbrev pub table_of : Inside → TableState
 table_of table =
-    record { zap = table.zap.items; flush = table.flush.items; active = table.active.items; age = table.age; checkpoint = table.checkpoint }
+    record { zap = table.zap; flush = table.flush; active = table.active; age = table.age; checkpoint = table.checkpoint }

@@ -1,4 +1,4 @@
-//! The dedup table with its two logs, in memory: three lists sorted by key.
+//! The dedup table with its two logs, in memory: three maps by key.
 //!
 //! The stored table has the homes that are counted, the active log what the last groups changed, and the
 //! flushing log what is on its way from one to the other. A key's home is looked up in the active log,
@@ -7,18 +7,28 @@
 //! definition in `pool_model` says, and its contract is that very definition; a contract sees a
 //! `PlainTable` as a `TableState`.
 //!
-//! Beside a table stand its logs as they are kept (`KeptLogs`): every change in the order in which it was
-//! appended, until the log is emptied. `sync_logged` is a sync of both.
+//! The stored table is a `HomeMap` and each log a `ChangeMap`: ordered maps, which a contract sees as lists
+//! that rise by key. So a look-up or a change takes a time of the logarithm of the size, and a copy or a
+//! list takes its length.
 //!
-//! `from_log` and `from_classes` make the lists of an image; `entries_found` lists the homes that the
-//! table finds. Lists are searched from their front: the pages of a later image have an index.
+//! Beside a table stand its logs as they are kept (`KeptLogs`): every change in the order in which it was
+//! appended, until the log is emptied. `sync_logged` is a sync of both; `last_changes` and `left_in` are what
+//! the two are replayed to.
+//!
+//! `from_classes` makes the stored table of an image; `entries_found` lists the homes that the table finds.
 #![tactic(auto)]
 
+mod change_map;
+mod home_map;
 mod logged;
 mod made;
+mod replaying;
 mod sync;
 mod table;
 
+pub use change_map::ChangeMap;
+pub use home_map::HomeMap;
 pub use logged::{KeptLogs, LoggedPlainTable, sync_logged};
-pub use made::{from_classes, from_log};
-pub use table::{PlainTable, change_at, entry_at};
+pub use made::from_classes;
+pub use replaying::{last_changes, left_in};
+pub use table::{PlainTable, entry_at};

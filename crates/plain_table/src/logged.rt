@@ -1,5 +1,6 @@
 ghost use Rattle.std.specs.Prelude.{◌≡◌, ◌==◌, [], length, IfOk, if◌then◌else◌};
-ghost use Rattle.pool_model.specs.Logs.{empty_logs, sync_logged};
+ghost use Rattle.pool_model.specs.Logs.{empty_logs};
+ghost use Rattle.pool_model.specs.Replaying.{sync_logged};
 ghost use Rattle.plain_table.specs.Logged.{logged_of, logs_by};
 
 use crate::table::PlainTable;
@@ -91,7 +92,7 @@ fn still_flushing(
 ) -> Result<Vec<Change>, AllocError>
     ensures { IfOk result (λ flushing. flushing.items ≡ (if length after.now.flush == 0 then [] else logs.now.flushing)) }
 {
-    if after.flush.is_empty() {
+    if after.flush.len() == 0 {
         return Ok(Vec::new(alloc));
     }
     Vec::from_slice(alloc, logs.flushing.as_slice())

@@ -1,57 +1,60 @@
-ghost use Rattle.std.specs.Prelude.{◌≡◌, ◌==◌, [], IfOk, fold, filter};
-ghost use Rattle.pool_model.specs.Table.{set_entry, set_change, set_found, entries_found, waiting_in};
+ghost use Rattle.std.specs.Prelude.{◌≡◌, ◌==◌, IfOk, OnOk, fold, filter};
+ghost use Rattle.pool_model.specs.Table.{AreRising, set_entry, set_found, entries_found, waiting_in};
 
-use crate::sync::{drop_entry, set_change, set_entry};
+use crate::home_map::HomeMap;
 use crate::table::PlainTable;
 use ddt_entry::{Change, Entry};
 use std::alloc::{AllocError, Global};
 
-/// The stored table of two classes: the entries of the second are set among those of the first, one after
-/// another. The error is want of memory.
+/// Sets these entries in a table, one after another. The error is want of memory.
+fn set_all(stored: &mut HomeMap, entries: &[Entry]) -> Result<(), AllocError>
+    ensures { OnOk result (stored.new ≡ fold (λ entries entry. set_entry entry entries) stored.old entries.now) }
+{
+    'entries: for entry in entries {
+        stored.set(&entry.key, entry.home)?;
+    }
+    Ok(())
+}
+
+/// The stored table of two classes: the entries of the second are set among those of the first, which rise by key,
+/// one after another. The error is want of memory.
 pub fn from_classes(
     alloc: Global,
     unique: &[Entry],
     duplicate: &[Entry],
-) -> Result<Vec<Entry>, AllocError>
-    ensures { IfOk result (λ stored. stored.items ≡ fold (λ entries entry. set_entry entry entries) unique.now duplicate.now) }
+) -> Result<HomeMap, AllocError>
+    ensures { AreRising unique.now
+        → IfOk result (λ stored. stored ≡ fold (λ entries entry. set_entry entry entries) unique.now duplicate.now) }
 {
-    let mut stored = Vec::from_slice(alloc, unique)?;
-    'entries: for entry in duplicate {
-        stored = set_entry(stored, *entry)?;
-    }
+    let mut stored = HomeMap::new(alloc);
+    set_all(&mut stored, unique)?;
+    set_all(&mut stored, duplicate)?;
     Ok(stored)
 }
 
-/// The last change of each key in a log, sorted by key. The error is want of memory.
-pub fn from_log(alloc: Global, log: &[Change]) -> Result<Vec<Change>, AllocError>
-    ensures { IfOk result (λ sorted. sorted.items ≡ fold (λ changes change. set_change change changes) [] log.now) }
-{
-    let mut sorted = Vec::new(alloc);
-    'changes: for change in log {
-        sorted = set_change(sorted, *change)?;
-    }
-    Ok(sorted)
-}
-
 /// What a change makes of the homes that are found: an entry's is set, a key that is gone goes.
-fn set_found(entries: Vec<Entry>, change: &Change) -> Result<Vec<Entry>, AllocError>
-    ensures { IfOk result (λ found. found.items ≡ set_found entries.items change.now) }
+fn set_found(found: &mut HomeMap, change: &Change) -> Result<(), AllocError>
+    ensures { OnOk result (found.new ≡ set_found found.old change.now) }
 {
     match change {
-        Change::Entry(entry) => set_entry(entries, *entry),
-        Change::Gone(key) => Ok(drop_entry(entries, key)),
+        Change::Entry(entry) => {
+            found.set(&entry.key, entry.home)?;
+        }
+        Change::Gone(key) => {
+            found.take_out(key);
+        }
     }
+    Ok(())
 }
 
 /// What these changes make of the homes that are found.
-fn all_found(entries: Vec<Entry>, log: &[Change]) -> Result<Vec<Entry>, AllocError>
-    ensures { IfOk result (λ found. found.items ≡ fold set_found entries.items log.now) }
+fn all_found(found: &mut HomeMap, log: &[Change]) -> Result<(), AllocError>
+    ensures { OnOk result (found.new ≡ fold set_found found.old log.now) }
 {
-    let mut found = entries;
     'changes: for change in log {
-        found = set_found(found, change)?;
+        set_found(found, change)?;
     }
-    Ok(found)
+    Ok(())
 }
 
 impl PlainTable {
@@ -59,9 +62,12 @@ impl PlainTable {
     pub fn entries_found(&self, alloc: Global) -> Result<Vec<Entry>, AllocError>
         ensures { IfOk result (λ found. found.items ≡ entries_found self.now) }
     {
-        let stored = Vec::from_slice(alloc, self.zap.as_slice())?;
-        let flushing = all_found(stored, self.flush.as_slice())?;
-        all_found(flushing, self.active.as_slice())
+        let flushing = self.flush.changes(alloc)?;
+        let active = self.active.changes(alloc)?;
+        let mut found = self.zap.copied(alloc)?;
+        all_found(&mut found, flushing.as_slice())?;
+        all_found(&mut found, active.as_slice())?;
+        found.entries(alloc)
     }
 
     /// The homes whose places are kept though no pointer is counted, sorted by key. The error is want of

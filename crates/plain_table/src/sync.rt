@@ -1,20 +1,20 @@
-ghost use Rattle.std.specs.Prelude.{◌≡◌, ◌+◌, ◌/◌, IfOk, length, position, filter, not, fold};
+ghost use Rattle.std.specs.Prelude.{◌≡◌, ◌+◌, ◌/◌, IfOk, OnOk, take, drop, fold};
 ghost use Rattle.std.specs.List.{last_or};
 ghost use Rattle.std.specs.Option.{option_map};
-ghost use Rattle.std.specs.Ordering.{is_le};
 ghost use Rattle.ddt_entry.specs.Changes.{key_in};
-ghost use Rattle.ddt_entry.specs.Keys.{key_cmp, key_eq};
-ghost use Rattle.pool_model.specs.Table.{set_entry, drop_entry, set_change, drop_change, log_change, logged, flush_entry, checkpoint_after, flushed, is_due, aged, swapped, flush_limit, sync_table};
+ghost use Rattle.pool_model.specs.Table.{log_change, logged, flush_entry, checkpoint_after, flushed, is_due, aged, swapped, flush_limit, sync_table};
 
-use crate::table::{PlainTable, is_of};
-use ddt_entry::{Change, Entry, Key, key_of};
+use crate::change_map::ChangeMap;
+use crate::home_map::HomeMap;
+use crate::table::PlainTable;
+use ddt_entry::{Change, Key, key_of};
 use std::alloc::{AllocError, Global};
 
 /// For how many groups an active log may grow before it is flushed.
 const SWAP_AGE: u64 = 8;
 
 /// How many keys an active log may have before it is flushed.
-const SWAP_KEYS: usize = 1000;
+const SWAP_KEYS: u64 = 1000;
 
 impl PlainTable {
     /// The table after a group with these changes.
@@ -27,7 +27,7 @@ impl PlainTable {
     }
 
     /// How many changes a sync flushes.
-    fn flush_limit(&self) -> usize
+    fn flush_limit(&self) -> u64
         ensures { result ≡ flush_limit self.now }
     {
         64 + self.flush.len() / 8
@@ -45,32 +45,22 @@ impl PlainTable {
     }
 
     /// A change goes to the active log, and its key leaves the flushing log.
-    fn log_change(self, change: Change) -> Result<PlainTable, AllocError>
+    fn log_change(mut self, change: Change) -> Result<PlainTable, AllocError>
         ensures { IfOk result (λ table. table ≡ log_change self change) }
     {
-        let key = key_of(&change);
-        Ok(PlainTable {
-            zap: self.zap,
-            flush: drop_change(self.flush, &key),
-            active: set_change(self.active, change)?,
-            age: self.age,
-            checkpoint: self.checkpoint,
-        })
+        self.flush.remove(&key_of(&change));
+        self.active.set(change)?;
+        Ok(self)
     }
 
     /// Second step: the first so many changes of the flushing log come to the stored table.
-    fn flushed(self, alloc: Global, limit: usize) -> Result<PlainTable, AllocError>
+    fn flushed(mut self, alloc: Global, limit: u64) -> Result<PlainTable, AllocError>
         ensures { IfOk result (λ table. table ≡ flushed limit self) }
     {
-        let flush = self.flush;
-        let (left, rest) = flush.as_slice().split_at(limit.min(flush.len()));
-        Ok(PlainTable {
-            zap: all_flushed(self.zap, left)?,
-            flush: Vec::from_slice(alloc, rest)?,
-            active: self.active,
-            age: self.age,
-            checkpoint: checkpoint_after(left, rest),
-        })
+        let left = take_first(alloc, &mut self.flush, limit)?;
+        all_flushed(&mut self.zap, left.as_slice())?;
+        self.checkpoint = checkpoint_after(left.as_slice(), &self.flush);
+        Ok(self)
     }
 
     /// Third step: the active log is a group older, and becomes the flushing one when it is due.
@@ -84,7 +74,7 @@ impl PlainTable {
         PlainTable {
             zap: table.zap,
             flush: table.active,
-            active: Vec::new(alloc),
+            active: ChangeMap::new(alloc),
             age: 0,
             checkpoint: None,
         }
@@ -102,110 +92,61 @@ impl PlainTable {
     fn is_due(&self) -> bool
         ensures { result ≡ is_due self.now }
     {
-        if !self.flush.is_empty() || self.active.is_empty() {
+        if self.flush.len() != 0 || self.active.len() == 0 {
             return false;
         }
         self.active.len() >= SWAP_KEYS || self.age >= SWAP_AGE
     }
 }
 
-/// Sorted entries, with this one in its key's place.
-pub fn set_entry(mut entries: Vec<Entry>, entry: Entry) -> Result<Vec<Entry>, AllocError>
-    ensures { IfOk result (λ set. set.items ≡ set_entry entry entries.items) }
+/// Takes the first so many changes out of a log, or all where there are fewer. The error is want of memory.
+fn take_first(alloc: Global, log: &mut ChangeMap, limit: u64) -> Result<Vec<Change>, AllocError>
+    ensures left { IfOk result (λ left. left.items ≡ take limit log.old) }
+    ensures rest { OnOk result (log.new ≡ drop limit log.old) }
 {
-    let Some(at) = first_entry_from(entries.as_slice(), &entry.key) else {
-        entries.push(entry)?;
-        return Ok(entries);
-    };
-    if entries[at].key == entry.key {
-        entries[at] = entry;
-        return Ok(entries);
+    let count = limit.min(log.len());
+    let mut left = Vec::new(alloc);
+    'changes: for _ in 0..count {
+        if let Some(change) = log.pop_first() {
+            left.push(change)?;
+        }
     }
-    entries.insert(at, entry)?;
-    Ok(entries)
-}
-
-/// The first place of an entry whose key doesn't come before this one.
-fn first_entry_from(entries: &[Entry], key: &Key) -> Option<usize>
-    ensures { result ≡ position (λ entry. is_le (key_cmp key.now entry.key)) entries.now }
-{
-    entries.iter().position(|entry| key.cmp(&entry.key).is_le())
-}
-
-/// The entries of other keys.
-pub fn drop_entry(mut entries: Vec<Entry>, key: &Key) -> Vec<Entry>
-    ensures { result.items ≡ drop_entry key.now entries.items }
-{
-    entries.retain(|entry| entry.key != *key);
-    entries
-}
-
-/// Sorted changes, with this one in its key's place.
-pub fn set_change(mut log: Vec<Change>, change: Change) -> Result<Vec<Change>, AllocError>
-    ensures { IfOk result (λ set. set.items ≡ set_change change log.items) }
-{
-    let key = key_of(&change);
-    let Some(at) = first_change_from(log.as_slice(), &key) else {
-        log.push(change)?;
-        return Ok(log);
-    };
-    if is_of(&log[at], &key) {
-        log[at] = change;
-        return Ok(log);
-    }
-    log.insert(at, change)?;
-    Ok(log)
-}
-
-/// The first place of a change whose key doesn't come before this one.
-fn first_change_from(log: &[Change], key: &Key) -> Option<usize>
-    ensures { result ≡ position (λ change. is_le (key_cmp key.now (key_in change))) log.now }
-{
-    log.iter().position(|change| comes_to(key, change))
-}
-
-/// Whether a change's key doesn't come before this one.
-fn comes_to(key: &Key, change: &Change) -> bool
-    ensures { result ≡ is_le (key_cmp key.now (key_in change.now)) }
-{
-    key.cmp(&key_of(change)).is_le()
-}
-
-/// The changes of other keys.
-fn drop_change(mut log: Vec<Change>, key: &Key) -> Vec<Change>
-    ensures { result.items ≡ drop_change key.now log.items }
-{
-    log.retain(|change| !is_of(change, key));
-    log
+    Ok(left)
 }
 
 /// What a flushed change makes of the stored table: a home that is counted is set, any other goes.
-fn flush_entry(zap: Vec<Entry>, change: &Change) -> Result<Vec<Entry>, AllocError>
-    ensures { IfOk result (λ after. after.items ≡ flush_entry zap.items change.now) }
+fn flush_entry(zap: &mut HomeMap, change: &Change) -> Result<(), AllocError>
+    ensures { OnOk result (zap.new ≡ flush_entry zap.old change.now) }
 {
     match change {
-        Change::Entry(entry) if entry.home.count > 0 => set_entry(zap, *entry),
-        Change::Entry(entry) => Ok(drop_entry(zap, &entry.key)),
-        Change::Gone(key) => Ok(drop_entry(zap, key)),
+        Change::Entry(entry) if entry.home.count > 0 => {
+            zap.set(&entry.key, entry.home)?;
+        }
+        Change::Entry(entry) => {
+            zap.take_out(&entry.key);
+        }
+        Change::Gone(key) => {
+            zap.take_out(key);
+        }
     }
+    Ok(())
 }
 
 /// What these flushed changes make of the stored table.
-fn all_flushed(zap: Vec<Entry>, left: &[Change]) -> Result<Vec<Entry>, AllocError>
-    ensures { IfOk result (λ after. after.items ≡ fold flush_entry zap.items left.now) }
+fn all_flushed(zap: &mut HomeMap, left: &[Change]) -> Result<(), AllocError>
+    ensures { OnOk result (zap.new ≡ fold flush_entry zap.old left.now) }
 {
-    let mut after = zap;
-    for change in left {
-        after = flush_entry(after, change)?;
+    'changes: for change in left {
+        flush_entry(zap, change)?;
     }
-    Ok(after)
+    Ok(())
 }
 
 /// How far a flushing log has been flushed: to the last key that left, or nowhere where nothing is left.
-fn checkpoint_after(left: &[Change], rest: &[Change]) -> Option<Key>
+fn checkpoint_after(left: &[Change], rest: &ChangeMap) -> Option<Key>
     ensures { result ≡ checkpoint_after left.now rest.now }
 {
-    if rest.is_empty() {
+    if rest.len() == 0 {
         return None;
     }
     last_key(left)

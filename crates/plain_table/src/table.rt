@@ -1,22 +1,21 @@
 ghost use Rattle.std.specs.Prelude.{◌≡◌, IfOk};
-ghost use Rattle.std.specs.Option.{option_copied};
-ghost use Rattle.ddt_entry.specs.Changes.{key_in};
-ghost use Rattle.ddt_entry.specs.Keys.{key_eq};
-ghost use Rattle.pool_model.specs.Table.{empty_table, entry_at, change_at, found_over, found};
+ghost use Rattle.pool_model.specs.Table.{empty_table, entry_at, found_over, found};
 
-use ddt_entry::{Change, Entry, Home, Key, key_of};
+use crate::change_map::ChangeMap;
+use crate::home_map::HomeMap;
+use ddt_entry::{Change, Entry, Home, Key};
 use std::alloc::{AllocError, Global};
 use std::marker::Model;
 
-/// The dedup table with its two logs, each a list sorted by key.
+/// The dedup table with its two logs, each an ordered map by key.
 #[derive(Drop)]
 pub struct PlainTable {
     /// The stored homes, with counts above 0.
-    pub zap: Vec<Entry>,
+    pub zap: HomeMap,
     /// The log that is being flushed.
-    pub flush: Vec<Change>,
+    pub flush: ChangeMap,
     /// The log that grows.
-    pub active: Vec<Change>,
+    pub active: ChangeMap,
     /// For how many groups the active log has grown.
     pub age: u64,
     /// The last key that left the flushing log, while something is left of it.
@@ -39,9 +38,9 @@ impl PlainTable {
         ensures { result ≡ empty_table }
     {
         PlainTable {
-            zap: Vec::new(alloc),
-            flush: Vec::new(alloc),
-            active: Vec::new(alloc),
+            zap: HomeMap::new(alloc),
+            flush: ChangeMap::new(alloc),
+            active: ChangeMap::new(alloc),
             age: 0,
             checkpoint: None,
         }
@@ -52,9 +51,9 @@ impl PlainTable {
         ensures { IfOk result (λ copy. copy ≡ self.now) }
     {
         Ok(PlainTable {
-            zap: Vec::from_slice(alloc, self.zap.as_slice())?,
-            flush: Vec::from_slice(alloc, self.flush.as_slice())?,
-            active: Vec::from_slice(alloc, self.active.as_slice())?,
+            zap: self.zap.copied(alloc)?,
+            flush: self.flush.copied(alloc)?,
+            active: self.active.copied(alloc)?,
             age: self.age,
             checkpoint: self.checkpoint,
         })
@@ -64,9 +63,9 @@ impl PlainTable {
     pub fn found(&self, key: &Key) -> Option<Home>
         ensures { result ≡ found self.now key.now }
     {
-        let stored = entry_at(self.zap.as_slice(), key);
-        let flushing = found_over(stored, change_at(self.flush.as_slice(), key).copied());
-        found_over(flushing, change_at(self.active.as_slice(), key).copied())
+        let stored = self.zap.find(key);
+        let flushing = found_over(stored, self.flush.get(key).copied());
+        found_over(flushing, self.active.get(key).copied())
     }
 }
 
@@ -78,20 +77,6 @@ pub fn entry_at(entries: &[Entry], key: &Key) -> Option<Home>
         .iter()
         .find(|entry| entry.key == *key)
         .map(|entry| entry.home)
-}
-
-/// The change of a key in a log.
-pub fn change_at<'a>(log: &'a [Change], key: &Key) -> Option<&'a Change>
-    ensures { option_copied result ≡ change_at key.now log.now }
-{
-    log.iter().find(|change| is_of(change, key))
-}
-
-/// Whether a change is of this key.
-pub fn is_of(change: &Change, key: &Key) -> bool
-    ensures { result ≡ key_eq (key_in change.now) key.now }
-{
-    key_of(change) == *key
 }
 
 /// A change's home, or else what stands below it.

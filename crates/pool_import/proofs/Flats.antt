@@ -9,7 +9,7 @@ use Rattle.page_tree.specs.declared.pointer.PagePtr.{PagePtr}
 use Rattle.uber_ring.specs.declared.seal.Seal.{Seal}
 use Rattle.table_state.specs.SealForms.{slots_root, unique_root, duplicate_root, active_root, flushing_root}
 use Rattle.table_state.specs.Flat.{Flat, Reads, IsRead}
-use Rattle.table_state.specs.declared.slot_record.SlotRecord.{SlotRecord}
+use Rattle.slot_table.specs.declared.slot.SlotRecord.{SlotRecord}
 use Rattle.pool_import.specs.Parts.{ReadsSlots, ReadsEntries, ReadsChanges}
 use Rattle.table_state.proofs.FlatLaws.{one_walk}
 

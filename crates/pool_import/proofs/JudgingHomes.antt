@@ -15,7 +15,7 @@ use Rattle.disk_model.specs.Images.{Image}
 use Rattle.pool_model.specs.Pool.{Pool, Pointer, Mark, tracked, loose, is_tracked, since_of, tracks, tracked_at}
 use Rattle.pool_model.specs.Table.{TableState, entry_at, entries_found, found, counted, home_of_pointers, counted_homes, IsTable}
 use Rattle.table_state.specs.Flat.{pointer_of, mark_by, mark_of}
-use Rattle.table_state.specs.declared.slot_record.SlotRecord.{SlotRecord}
+use Rattle.slot_table.specs.declared.slot.SlotRecord.{SlotRecord}
 use Rattle.pool_model.proofs.Lists.{all_filter, all_from, all_from_both, all_tested}
 use Rattle.pool_import.specs.Marks.{spot_in, counts_for, is_counted}
 use Rattle.pool_import.specs.declared.marks.Spot.{Spot}

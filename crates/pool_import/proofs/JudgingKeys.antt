@@ -16,7 +16,7 @@ use Rattle.ddt_entry.proofs.KeyLaws.{key_cmp_total, is_eq-key_cmp, key_eq-true, 
 use Rattle.pool_model.specs.Table.{TableState, entry_at, entries_found, AreRising, IsTable}
 use Rattle.pool_model.specs.Pool.{is_tracked}
 use Rattle.table_state.specs.Flat.{mark_of}
-use Rattle.table_state.specs.declared.slot_record.SlotRecord.{SlotRecord}
+use Rattle.slot_table.specs.declared.slot.SlotRecord.{SlotRecord}
 use Rattle.pool_model.proofs.Lists.{all_each, all_from}
 use Rattle.pool_model.proofs.TablePuts.{apart_by_order}
 use Rattle.pool_import.specs.Marks.{counts_for, spot_among, spot_of}

@@ -10,9 +10,10 @@ use Rattle.ddt_entry.proofs.KeyLaws.{key_eq-true}
 use Rattle.disk_model.specs.Images.{Image}
 use Rattle.pool_model.specs.Pool.{Pointer, Pairwise, IsApart, run_length, is_at, is_shared, is_tracked, SharesHome, GoTogether, LiesWithin}
 use Rattle.pool_model.specs.Table.{TableState, found}
-use Rattle.table_state.specs.Flat.{stands_before, pointer_of}
+use Rattle.slot_table.specs.Slots.{stands_before}
+use Rattle.table_state.specs.Flat.{pointer_of}
 use Rattle.table_state.specs.SlotRecords.{is_slot}
-use Rattle.table_state.specs.declared.slot_record.SlotRecord.{SlotRecord}
+use Rattle.slot_table.specs.declared.slot.SlotRecord.{SlotRecord}
 use Rattle.table_state.proofs.SlotLaws.{is_slot-from}
 use Rattle.table_state.proofs.UsedLaws.{one_sector}
 use Rattle.pool_import.specs.Marks.{spot_in, go_apart}

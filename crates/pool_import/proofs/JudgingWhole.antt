@@ -18,7 +18,7 @@ use Rattle.table_state.specs.Flat.{Flat, HoldTogether, IsWithin, IsChangeWithin,
 use Rattle.table_state.specs.SealForms.{mode_in}
 use Rattle.table_state.specs.SlotRecords.{is_slot}
 use Rattle.table_state.specs.Tables.{IsTableWithin, HasLength}
-use Rattle.table_state.specs.declared.slot_record.SlotRecord.{SlotRecord}
+use Rattle.slot_table.specs.declared.slot.SlotRecord.{SlotRecord}
 use Rattle.table_state.proofs.UnusedOf.{each_fails}
 use Rattle.table_state.proofs.UsedLaws.{one_sector, used_is}
 use Rattle.pool_model.proofs.Lists.{all_filter, all_from, all_from_both}

@@ -14,7 +14,7 @@ use Rattle.ddt_entry.specs.declared.record.Malformed.{Malformed}
 use Rattle.ddt_entry.specs.declared.entry.SlotKind.{SlotKind}
 use Rattle.table_state.specs.SlotRecords.{is_slot, slot_in, slot_of, slot_at, kind_said, kind_at}
 use Rattle.table_state.specs.Tables.{HasLength}
-use Rattle.table_state.specs.declared.slot_record.SlotRecord.{SlotRecord}
+use Rattle.slot_table.specs.declared.slot.SlotRecord.{SlotRecord}
 use Rattle.ddt_entry.proofs.RecordLaws.{is_key_length-from}
 
 -- what holds of each item that a record spells

@@ -11,10 +11,11 @@ use Rattle.ddt_entry.specs.declared.entry.Change.TheVariants as changes
 use Rattle.uber_ring.specs.declared.seal.Seal.{Seal}
 use Rattle.pool_model.specs.Pool.{Pairwise}
 use Rattle.pool_model.specs.Table.{entry_at, AreRising}
-use Rattle.table_state.specs.Flat.{Flat, IsWithin, IsChangeWithin, HoldTogether, stands_before}
+use Rattle.slot_table.specs.Slots.{stands_before}
+use Rattle.table_state.specs.Flat.{Flat, IsWithin, IsChangeWithin, HoldTogether}
 use Rattle.pool_import.proofs.JudgingFound.{earlier_yet}
 use Rattle.pool_import.specs.Together.{is_within, is_change_within, rises, has_lower_key, is_elsewhere, are_within, are_sorted, are_classes, are_counted, hold_together}
-use Rattle.table_state.proofs.SlotsAfter.{stands_through}
+use Rattle.slot_table.proofs.SlotLaws.{stands_through}
 
 -- a test of each item
 all_decided : {X : Type 0} (p : X → Bool) (P : X → Type 0) → ((x : X) → Decides (p x) (P x)) → (xs : List X)
@@ -75,6 +76,13 @@ is_none-Decides : {X : Type 0} (o : Option X) → Decides (is_none o) (o ≡ Non
 is_none-Decides None = (λ e. refl, λ e. refl)
 is_none-Decides (Some x) = (λ e. absurd (cc e), λ e. absurd (cc e))
 
+-- what is sorted
+pub are_sorted-Decides : (flat : Flat)
+    → Decides (are_sorted flat) ((Pairwise (λ a b. stands_before a b ≡ true) flat.slots × AreRising flat.unique) × AreRising flat.duplicate)
+are_sorted-Decides flat = Decides-and _ _
+    (Decides-and _ _ (rises-Decides stands_before stands_through flat.slots) (rises-Decides has_lower_key keys_onward flat.unique))
+    (rises-Decides has_lower_key keys_onward flat.duplicate)
+
 -- the tests as one
 pub hold_together-Decides : (seal : Seal) (flat : Flat) → Decides (hold_together seal flat) (HoldTogether seal flat)
 hold_together-Decides seal flat =
@@ -95,7 +103,7 @@ hold_together-Decides seal flat =
       flushing_changes = h.1.1;
     })
     (λ h. (((((((h.pages_within, h.unique_within), h.duplicate_within), h.active_within), h.flushing_within), ((h.slots_rising, h.unique_rising), h.duplicate_rising)), ((h.counted_once, h.counted_more), h.one_class)), (h.active_changes, h.flushing_changes)))
-    (Decides-and _ _ (Decides-and _ _ (Decides-and _ _ within sorted) classes) counted)
+    (Decides-and _ _ (Decides-and _ _ (Decides-and _ _ within (are_sorted-Decides flat)) classes) counted)
   where
     entries_within : (entries : List Entry)
         → Decides (list_all (is_within seal.sectors seal.group) entries) (AllByRecursion (IsWithin seal.sectors seal.group) entries)
@@ -117,12 +125,6 @@ hold_together-Decides seal flat =
         (all_decided (λ sector. nat_lt sector seal.sectors) (λ sector. sector < seal.sectors)
         (λ sector. Decides-ltb sector seal.sectors) flat.named)
         (entries_within flat.unique)) (entries_within flat.duplicate)) (log_within flat.active)) (log_within flat.flushing)
-
-    sorted : Decides (are_sorted flat)
-        ((Pairwise (λ a b. stands_before a b ≡ true) flat.slots × AreRising flat.unique) × AreRising flat.duplicate)
-    sorted = Decides-and _ _
-        (Decides-and _ _ (rises-Decides stands_before stands_through flat.slots) (rises-Decides has_lower_key keys_onward flat.unique))
-        (rises-Decides has_lower_key keys_onward flat.duplicate)
 
     classes : Decides (are_classes flat)
         ((AllByRecursion (λ (entry : Entry). entry.home.count ≡ 1) flat.unique

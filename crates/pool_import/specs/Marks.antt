@@ -7,7 +7,7 @@ use Rattle.uber_ring.specs.declared.seal.Seal.{Seal}
 use Rattle.pool_model.specs.Pool.{Pointer, is_tracked}
 use Rattle.pool_model.specs.Table.{TableState, entry_at, found}
 use Rattle.table_state.specs.Flat.{mark_of}
-use Rattle.table_state.specs.declared.slot_record.SlotRecord.{SlotRecord}
+use Rattle.slot_table.specs.declared.slot.SlotRecord.{SlotRecord}
 use Rattle.pool_import.specs.declared.marks.Spot.{Spot}
 
 -- what a slot's pointer is to the table

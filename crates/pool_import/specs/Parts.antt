@@ -8,7 +8,7 @@ use Rattle.disk_model.specs.Images.{Image}
 use Rattle.page_tree.specs.declared.pointer.PagePtr.{PagePtr}
 use Rattle.table_state.specs.Flat.{Reads}
 use Rattle.table_state.specs.SlotRecords.{slot_in}
-use Rattle.table_state.specs.declared.slot_record.SlotRecord.{SlotRecord}
+use Rattle.slot_table.specs.declared.slot.SlotRecord.{SlotRecord}
 
 -- a chain that spells these slots
 abbrev pub ReadsSlots : (sectors group : ℕ) → Image → (before : List ℕ) → Option PagePtr → (after : List ℕ) → List SlotRecord → Type 0

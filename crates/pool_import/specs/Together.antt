@@ -8,7 +8,8 @@ use Rattle.ddt_entry.specs.declared.entry.Change.{Change}
 use Rattle.ddt_entry.specs.declared.entry.Change.TheVariants as changes
 use Rattle.uber_ring.specs.declared.seal.Seal.{Seal}
 use Rattle.pool_model.specs.Table.{entry_at}
-use Rattle.table_state.specs.Flat.{Flat, stands_before}
+use Rattle.slot_table.specs.Slots.{stands_before}
+use Rattle.table_state.specs.Flat.{Flat}
 
 -- whether the numbers of an entry are in their ranges
 abbrev pub is_within : (sectors group : ℕ) → Entry → Bool

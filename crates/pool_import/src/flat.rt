@@ -10,9 +10,9 @@ use crate::parts::{read_changes, read_entries, read_slots};
 use disk_model::Disk;
 use page_tree::{PageFault, PagePtr, SectorList};
 use pool_model::{ChangeList, EntryList};
+use slot_table::SlotList;
 use std::alloc::Global;
 use std::marker::Model;
-use table_state::SlotList;
 use uber_ring::Seal;
 
 /// What the five chains of a flat image keep, and the sectors of their pages in the order in which they

@@ -16,6 +16,9 @@
 //! table counts (`marks`, `judge_counts`, `judge_keys`), and sees that no page, no two blocks and no home
 //! that waits share a sector, unless the table counts two blocks under one key (`judge_places`).
 //! The pool that is found is sound whatever the disk tells: its numbers are in their ranges.
+//!
+//! An import takes the time of a sort of what the image names: keys are looked up in maps or by halves, and
+//! sectors in lists by sector.
 #![tactic(auto)]
 
 mod changes;

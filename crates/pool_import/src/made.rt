@@ -1,6 +1,7 @@
 ghost use Rattle.std.specs.Prelude.{◌≡◌, ◌≤◌, true, map, IfOk, IfSome, IfNone};
 ghost use Rattle.std.specs.List.{AllByRecursion};
 ghost use Rattle.disk_model.specs.Images.{Image};
+ghost use Rattle.slot_table.specs.Slots.{AreRisingSlots};
 ghost use Rattle.table_state.specs.SealForms.{modes_in, quota_in};
 ghost use Rattle.table_state.specs.Flat.{HoldTogether, table_in};
 ghost use Rattle.table_state.specs.SlotRecords.{is_slot};
@@ -15,6 +16,7 @@ use crate::whole::hold_together;
 use grant_book::SectorSet;
 use plain_table::{KeptLogs, PlainTable};
 use pool_model::Mode;
+use slot_table::SlotMap;
 use std::alloc::{AllocError, Global};
 use table_state::{Pool, mode_of};
 use uber_ring::{Seal, seal_fits};
@@ -40,16 +42,25 @@ pub fn pool_of(
     let Some(used) = judge(alloc, seal, &flat, &table)? else {
         return Ok(None);
     };
-    Ok(Some(assembled(seal, tag, flat, table, used)))
+    Ok(Some(assembled(alloc, seal, tag, flat, table, used)?))
 }
 
-/// The pool of these parts with this table. It keeps the logs as they were read.
-fn assembled(seal: &Seal, tag: u8, flat: FlatImage, table: PlainTable, used: SectorSet) -> Pool
-    requires { table ≡ table_in seal.now flat }
-    ensures { result ≡ held_of tag seal.now flat used }
+/// The pool of these parts with this table. It keeps the logs as they were read. The error is want of memory.
+fn assembled(
+    alloc: Global,
+    seal: &Seal,
+    tag: u8,
+    flat: FlatImage,
+    table: PlainTable,
+    used: SectorSet,
+) -> Result<Pool, AllocError>
+    requires table { table ≡ table_in seal.now flat }
+    requires slots { AreRisingSlots flat.slots }
+    ensures { IfOk result (λ pool. pool ≡ held_of tag seal.now flat used) }
 {
-    Pool {
-        slots: flat.slots,
+    let slots = SlotMap::of_slots(alloc, flat.slots.as_slice())?;
+    Ok(Pool {
+        slots,
         table,
         logs: KeptLogs {
             active: flat.active.into_vec(),
@@ -62,7 +73,7 @@ fn assembled(seal: &Seal, tag: u8, flat: FlatImage, table: PlainTable, used: Sec
         tag,
         sealed: seal.group,
         sectors: seal.sectors,
-    }
+    })
 }
 
 /// The modes of the lanes.

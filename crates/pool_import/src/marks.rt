@@ -6,8 +6,8 @@ ghost use Rattle.pool_import.specs.Marks.{spot_among};
 
 use crate::judge_keys::home_at;
 use ddt_entry::{Entry, Home, Key, SlotKind};
+use slot_table::SlotRecord;
 use std::alloc::{AllocError, Global};
-use table_state::SlotRecord;
 
 /// What the rules of the whole ask of a slot.
 #[derive(Clone, Copy, Debug, PartialEq, Eq)]

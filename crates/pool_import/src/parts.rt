@@ -5,7 +5,7 @@ ghost use Rattle.ddt_entry.specs.Spelling.{IsKeyLength};
 ghost use Rattle.ddt_entry.specs.declared.entry.Entry.{Entry as AnEntry};
 ghost use Rattle.ddt_entry.specs.declared.entry.Change.{Change as AChange};
 ghost use Rattle.page_tree.specs.declared.fault.PageFault.TheVariants.{Damaged, ReadFault};
-ghost use Rattle.table_state.specs.declared.slot_record.SlotRecord.{SlotRecord};
+ghost use Rattle.slot_table.specs.declared.slot.SlotRecord.{SlotRecord};
 ghost use Rattle.table_state.specs.SlotRecords.{is_slot};
 ghost use Rattle.table_state.specs.Tables.{HasLength};
 ghost use Rattle.pool_import.specs.Parts.{ReadsSlots, ReadsEntries, ReadsChanges, first_sector};
@@ -16,8 +16,8 @@ use crate::slots::slots_of;
 use disk_model::Disk;
 use page_tree::{PageFault, PagePtr, SectorList};
 use pool_model::{ChangeList, EntryList};
+use slot_table::SlotList;
 use std::alloc::Global;
-use table_state::SlotList;
 
 /// The sector of a chain's first page, and 0 where it has none.
 fn first_sector(root: &Option<PagePtr>) -> u64

@@ -5,8 +5,9 @@ ghost use Rattle.table_state.specs.SlotRecords.{is_slot, slot_in};
 ghost use Rattle.pool_import.specs.Spelled.{spells_no_slot};
 
 use page_tree::{PageFault, RecordList};
+use slot_table::SlotList;
 use std::alloc::Global;
-use table_state::{SlotList, read_slot};
+use table_state::read_slot;
 
 /// The slots that records spell, in a pool of these sectors under a seal of this group. `Damaged`, with the
 /// sector `at`, comes only where one of them spells no slot; the error `Memory` is want of memory for the

@@ -1,13 +1,15 @@
 ghost use Rattle.std.specs.Prelude.{◌≡◌, ◌<◌, ◌==◌, None, length, nat_lt};
 ghost use Rattle.std.specs.List.{list_all};
 ghost use Rattle.std.specs.Bool.{Decides};
-ghost use Rattle.table_state.specs.Flat.{HoldTogether, stands_before};
+ghost use Rattle.pool_model.specs.Table.{AreRising};
+ghost use Rattle.slot_table.specs.Slots.{stands_before};
+ghost use Rattle.table_state.specs.Flat.{HoldTogether};
 ghost use Rattle.pool_import.specs.Together.{is_within, is_change_within, follows, rises, has_lower_key, is_elsewhere, are_within, are_sorted, are_classes, are_counted, hold_together};
 
 use crate::flat::FlatImage;
+use crate::judge_keys::home_at;
 use ddt_entry::{Change, Entry};
-use plain_table::entry_at;
-use table_state::SlotRecord;
+use slot_table::SlotRecord;
 use uber_ring::Seal;
 
 /// The first sector in which a block can lie.
@@ -26,11 +28,17 @@ pub fn hold_together(seal: &Seal, flat: &FlatImage) -> bool
     keep_rules(seal, flat)
 }
 
-/// Whether all tests of the rules are met.
+/// Whether all tests of the rules are met. The classes are compared only once they are known to be sorted.
 fn keep_rules(seal: &Seal, flat: &FlatImage) -> bool
     ensures { result ≡ hold_together seal.now flat.now }
 {
-    are_within(seal, flat) && are_sorted(flat) && are_classes(flat) && are_counted(seal, flat)
+    if !are_within(seal, flat) {
+        return false;
+    }
+    if !are_sorted(flat) {
+        return false;
+    }
+    are_classes(flat) && are_counted(seal, flat)
 }
 
 /// Whether all numbers are in their ranges, in a pool of these sectors under a seal of this group.
@@ -157,6 +165,7 @@ fn entry_follows(last: &Option<Entry>, entry: &Entry) -> bool
 /// Whether each class of the stored table has its own entries: in one those that are counted once, in the
 /// other those that are counted more often, and no key is in both.
 fn are_classes(flat: &FlatImage) -> bool
+    requires { AreRising flat.now.duplicate }
     ensures { result ≡ are_classes flat.now }
 {
     let unique = flat.unique.as_slice();
@@ -178,18 +187,25 @@ fn counted_more(duplicate: &[Entry]) -> bool
     duplicate.iter().all(|entry| entry.home.count > 1)
 }
 
-/// Whether no key of the one class is in the other.
+/// Whether no key of the one class is in the other, which rises by key.
 fn all_elsewhere(unique: &[Entry], duplicate: &[Entry]) -> bool
+    requires { AreRising duplicate.now }
     ensures { result ≡ list_all (is_elsewhere duplicate.now) unique.now }
 {
-    unique.iter().all(|entry| is_elsewhere(duplicate, entry))
+    'entries: for entry in unique {
+        if !is_elsewhere(duplicate, entry) {
+            return false;
+        }
+    }
+    true
 }
 
-/// Whether no entry of this key is among these.
+/// Whether no entry of this key is among these, which rise by key.
 fn is_elsewhere(entries: &[Entry], entry: &Entry) -> bool
+    requires { AreRising entries.now }
     ensures { result ≡ is_elsewhere entries.now entry.now }
 {
-    entry_at(entries, &entry.key).is_none()
+    home_at(entries, &entry.key).is_none()
 }
 
 /// Whether the logs have as many changes as the seal says.

@@ -18,7 +18,8 @@ use Rattle.ddt_entry.specs.declared.key.Key.{Key}
 use Rattle.ddt_entry.specs.declared.entry.Change.{Change}
 use Rattle.ddt_entry.proofs.KeyLaws.{key_cmp_total, exact_keys, key_eq-symm}
 use Rattle.pool_model.specs.Table.{TableState, change_at, set_change, drop_change, is_past, log_change, logged, checkpoint_after, flushed, flush_limit, is_due, aged, swapped, sync_table, AreChangesRising}
-use Rattle.pool_model.specs.Logs.{last_changes, is_missing, is_left, left_in, reached, Logs, replayed, appended, emptied, exchanged, logs_after, Replays}
+use Rattle.pool_model.specs.Logs.{last_changes, is_missing, is_left, left_in, Logs, appended, emptied_log, exchanged, logs_after}
+use Rattle.pool_model.specs.Replaying.{reached, replayed, Replays}
 use Rattle.pool_model.proofs.Lists.{all_both, all_each, all_tested, filter_whole, pairs_filter, all_from, all_filter}
 use Rattle.pool_model.proofs.Sorted.{less_of, rising_fold}
 use Rattle.pool_model.proofs.TablePuts.{changes_put}
@@ -143,12 +144,12 @@ pub checkpoint_reached : (checkpoint : Option Key) (change : Change) (left : Lis
     → checkpoint_after (change ∷ left) (next ∷ rest) ≡ reached checkpoint (change ∷ left)
 checkpoint_reached checkpoint change left next rest = reached_last change left
 
-pub emptied-more : (change : Change) (rest : List Change) (logs : Logs) → emptied (change ∷ rest) logs ≡ logs
+pub emptied-more : (change : Change) (rest : List Change) (logs : Logs) → emptied_log (change ∷ rest) logs ≡ logs
 emptied-more change rest logs =
     let more : (length (change ∷ rest) == 0) ≡ false = grind (arith, nat_tests) in
     ap (λ (b : Bool). if b then record { active = logs.active; flushing = [] } else logs) more
 
-emptied-active : (flush : List Change) (logs : Logs) → (emptied flush logs).active ≡ logs.active
+emptied-active : (flush : List Change) (logs : Logs) → (emptied_log flush logs).active ≡ logs.active
 emptied-active [] logs = refl
 emptied-active (change ∷ rest) logs = ap (λ (l : Logs). l.active) (emptied-more change rest logs)
 
@@ -160,7 +161,7 @@ nothing_behind (suc limit) (change ∷ flush) some none = absurd (cc none)
 -- what leaves is behind the checkpoint
 flush_left : (checkpoint : Option Key) (logs : Logs) (left rest : List Change) → (left ≡ [] → rest ≡ [])
     → left_in checkpoint (last_changes logs.active) logs.flushing ≡ left ++ rest
-    → rest ≡ left_in (checkpoint_after left rest) (last_changes (emptied rest logs).active) (emptied rest logs).flushing
+    → rest ≡ left_in (checkpoint_after left rest) (last_changes (emptied_log rest logs).active) (emptied_log rest logs).flushing
 flush_left checkpoint logs left [] some is = refl
 flush_left checkpoint logs [] (next ∷ rest) some is = absurd (cc (some refl))
 flush_left checkpoint logs (change ∷ left) (next ∷ rest) some is =
@@ -196,7 +197,7 @@ logged_replays (change ∷ changes) table logs is =
     (logged_replays changes (log_change table change) (appended (change ∷ []) logs) (log_change_replays change table logs is))
 
 flushed_replays : (limit : ℕ) (table : TableState) (logs : Logs) → 0 < limit → Replays table logs
-    → Replays (flushed limit table) (emptied (drop limit table.flush) logs)
+    → Replays (flushed limit table) (emptied_log (drop limit table.flush) logs)
 flushed_replays limit table logs some is = record {
   active = is.active ∙ ap last_changes (sym (emptied-active (drop limit table.flush) logs));
   flush = flush_left table.checkpoint logs (take limit table.flush) (drop limit table.flush) (nothing_behind limit table.flush some)
@@ -220,7 +221,7 @@ pub sync_replays : (changes : List Change) (table : TableState) (logs : Logs) �
     → Replays (sync_table changes table) (logs_after changes table logs)
 sync_replays changes table logs is =
     swapped_replays (flushed (flush_limit table) (logged changes table))
-    (emptied (drop (flush_limit table) (logged changes table).flush) (appended changes logs))
+    (emptied_log (drop (flush_limit table) (logged changes table).flush) (appended changes logs))
     (flushed_replays (flush_limit table) (logged changes table) (appended changes logs) (some (length table.flush / 8))
     (logged_replays changes table logs is))
   where
@@ -237,7 +238,7 @@ logs_length changes table logs =
     omega (
       arith,
       by_due (is_due (aged (flushed (flush_limit table) (logged changes table))))
-          (emptied (flushed (flush_limit table) (logged changes table)).flush (appended changes logs)),
+          (emptied_log (flushed (flush_limit table) (logged changes table)).flush (appended changes logs)),
       by_rest (length (flushed (flush_limit table) (logged changes table)).flush == 0) (appended changes logs),
       length-append logs.active changes,
     )
@@ -261,7 +262,7 @@ pub logs_each : (Q : Change → Type 0) (changes : List Change) (table : TableSt
     → AllByRecursion Q changes → IsEachLogged Q (logs_after changes table logs)
 logs_each Q changes table logs each all =
     by_due (is_due (aged (flushed (flush_limit table) (logged changes table))))
-    (emptied (flushed (flush_limit table) (logged changes table)).flush (appended changes logs))
+    (emptied_log (flushed (flush_limit table) (logged changes table)).flush (appended changes logs))
     (by_rest (length (flushed (flush_limit table) (logged changes table)).flush == 0) (appended changes logs)
     (record { active = all_both Q logs.active changes each.active all; flushing = each.flushing }))
   where

@@ -9,6 +9,7 @@ pub mod Logs
 pub mod Plain
 pub mod Pool
 pub mod Prune
+pub mod Replaying
 pub mod Run
 pub mod Space
 pub mod Stats

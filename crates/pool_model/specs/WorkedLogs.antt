@@ -2,7 +2,8 @@
 use Rattle.std.specs.Prelude.{◌≡◌, ℕ, List, [], ◌∷◌, ◌++◌, fold, replicate, Some, None}
 use Rattle.ddt_entry.specs.declared.entry.Change.{Change}
 use Rattle.pool_model.specs.Table.{empty_table}
-use Rattle.pool_model.specs.Logs.{LoggedTable, empty_logs, replayed, sync_logged}
+use Rattle.pool_model.specs.Logs.{empty_logs}
+use Rattle.pool_model.specs.Replaying.{LoggedTable, replayed, sync_logged}
 use Rattle.pool_model.specs.WorkedTables.{key, entry, to, gone, entries_from, changes_from}
 
 abbrev pub at_first : LoggedTable

@@ -4,13 +4,13 @@
 //! A pool is a plain list of pointers, one for each slot of a lane that holds a block, and its settings.
 //! A count is the length of a filter over these pointers, a statistic a sum, and a run a fold of one
 //! command after another. The definitions stand in `specs/`, in the order in which they build on each
-//! other: `Pool`, `Stats`, `Table`, `Plain`, `Command`, `Group`, `Prune`, `Space`, `Run`, `Clash`, `Text`, `File`.
-//! Nothing in them knows of pages, logs on a disk, locks or threads; the crates above keep entries,
+//! other: `Pool`, `Stats`, `Table`, `Logs`, `Replaying`, `Plain`, `Command`, `Group`, `Prune`, `Space`, `Run`, `Clash`, `Text`, `File`.
+//! Nothing in them knows how pages are written, of locks or of threads; the crates above keep entries,
 //! trees and counters instead, and are proved to give what is said here.
 //!
 //! The laws of these definitions are lemmas in `proofs/`, which the crates above cite: of runs (`Steps`,
 //! `Settings`), of a group's turns (`Going`, `Writing`, `Counts`), of the table and its sync (`Synced`,
-//! `Waiting`, `Matching`, `Keys`), of the premise on clashes (`Clashes`, `Kept`), and of lists (`Lists`,
+//! `Waiting`, `Matching`, `Keys`), of its logs (`Replays`), of the premise on clashes (`Clashes`, `Kept`), and of lists (`Lists`,
 //! `Members`, `Sorted`).
 //!
 //! The types in `src/` are the plain data that all crates speak of: commands, answers, notes of what a

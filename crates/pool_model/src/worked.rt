@@ -1,6 +1,7 @@
 ghost use Rattle.pool_model.specs.WorkedRuns.{OneWrite, SharedWrite, TakenSlot, FullQuota, RoomAgain, PrunedByAge, LoosePointer, PrunedByShare, VerifiedBytes, EmptySlot, MixedLanes};
 ghost use Rattle.pool_model.specs.WorkedTurns.{WaitingHome, TwoLanes, FailedReads, SpoiltBlock, NoRoom, CutGroup};
 ghost use Rattle.pool_model.specs.WorkedTables.{OneChange, SwapByAge, Flushed, GoneKey, FlushedInParts, LimitBefore, SwapWaits, SwapByKeys, LongFlush};
+ghost use Rattle.pool_model.specs.WorkedLogs.{ChangedTwice, KeptWhole, ChangedAgain, Exchanged};
 ghost use Rattle.pool_model.specs.WorkedFacts.{RefusedFiles, EdgeFile, ReadFiles, Limits, Digests, Needs, Premise, HoldTogether, Contents, Counted, Sorted};
 ghost use Rattle.pool_model.specs.WorkedLeft.{LaterHit, TakenUp, NewMoment, NoChange, QuotaFirst, OffLane, OtherLaneOff, ReadsNothing, WaitsAgain, BytesKept, OldestFirst, PlainStays, QuotaByKeys, CutBlock, Ordered, FreePlaces, OtherNotes};
 
@@ -59,6 +60,14 @@ pub(crate) fn worked_tables()
     ensures swap_waits { SwapWaits }
     ensures swap_by_keys { SwapByKeys }
     ensures long_flush { LongFlush }
+{}
+
+/// Worked syncs of the logs as they are kept: a key that stands twice, a log that is flushed in parts, and a swap.
+pub(crate) fn worked_logs()
+    ensures changed_twice { ChangedTwice }
+    ensures kept_whole { KeptWhole }
+    ensures changed_again { ChangedAgain }
+    ensures exchanged { Exchanged }
 {}
 
 /// Worked facts beside the runs: which files are read and refused, digests, room, the premise on digests, and which

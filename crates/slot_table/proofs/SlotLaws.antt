@@ -1,6 +1,6 @@
 -- Laws of slots in rising order: one is set, or emptied.
 use Rattle.std.proofs.Common.{◌≡◌, ℕ, ◌+◌, ◌≤◌, ◌<◌, Bool, true, false, cond, not, ◌&&◌, ◌||◌, ◌==◌, List, [], ◌∷◌, length, filter, find, Option, Some, None, refl, sym, ap, ◌∙◌, arith}
-use Rattle.std.specs.Prelude.{nat_lt, if◌then◌else◌}
+use Rattle.std.specs.Prelude.{nat_lt, IfSome, if◌then◌else◌}
 use Rattle.std.specs.List.{AllByRecursion}
 use Rattle.std.specs.Option.{option_map}
 use Rattle.std.proofs.lemmas.Bool.{false≢true}
@@ -11,7 +11,7 @@ use Rattle.pool_model.specs.declared.closed.SlotChange.{SlotChange}
 use Rattle.pool_model.proofs.Lists.{all_from, all_filter, all_tested, pairs_filter, filter_whole, length-filter-le}
 use Rattle.pool_model.proofs.Pointers.{order_through}
 use Rattle.slot_table.specs.declared.slot.SlotRecord.{SlotRecord}
-use Rattle.slot_table.specs.Slots.{stands_before, is_slot_at, pointer_at, insert_slot, slot_with, set_slot, IsPlaced, AreSlots}
+use Rattle.slot_table.specs.Slots.{stands_before, is_slot_at, pointer_at, insert_slot, slot_with, set_slot, held_as, all_held, IsPlaced, AreRisingSlots, AreSlots}
 
 abbrev pub Before : SlotRecord → SlotRecord → Type 0
 Before a b = stands_before a b ≡ true
@@ -86,28 +86,80 @@ inserted_first new (held ∷ slots) above = ap (λ b. if b then new ∷ held ∷
 
 -- ---- A slot that is set
 
--- where one was emptied the others are slots in order
-pub slots_emptied : (slots : List SlotRecord) (lane slot : ℕ) → AreSlots slots
-    → AreSlots (filter (λ held. not (is_slot_at lane slot held)) slots)
-slots_emptied slots lane slot are = record {
-  rising = pairs_filter Before (λ held. not (is_slot_at lane slot held)) slots are.rising;
-  placed = all_filter IsPlaced (λ held. not (is_slot_at lane slot held)) slots are.placed;
-}
+-- what holds of each slot, and of the one that a change makes, holds of each then
+pub each_set : (P : SlotRecord → Type 0) (slots : List SlotRecord) (change : SlotChange)
+    → IfSome change.pointer (λ pointer. P (record { lane = change.lane; slot = change.slot; pointer = pointer })) → AllByRecursion P slots
+    → AllByRecursion P (set_slot slots change)
+each_set P slots change makes all = by_pointer change.pointer makes
+  where
+    left : AllByRecursion P (filter (λ held. not (is_slot_at change.lane change.slot held)) slots)
+    left = all_filter P (λ held. not (is_slot_at change.lane change.slot held)) slots all
 
--- the slots go on rising, each of a lane that there can be
-pub slots_set : (slots : List SlotRecord) (lane slot : ℕ) (pointer : Option SlotPointer) → lane < 16 → slot < 65_536 → AreSlots slots
-    → AreSlots (set_slot slots (record { lane = lane; slot = slot; pointer = pointer }))
-slots_set slots lane slot None small fits are = slots_emptied slots lane slot are
-slots_set slots lane slot (Some pointer) small fits are = record {
-  rising = rising_inserted new (filter (is_other new) slots)
-      (all_tested (λ held. is_other new held ≡ true) (is_other new) (λ held other. other) slots)
-      (pairs_filter Before (is_other new) slots are.rising);
-  placed = each_inserted IsPlaced new (filter (is_other new) slots) (record { lane = small; slot = fits })
-      (all_filter IsPlaced (is_other new) slots are.placed);
+    by_pointer : (pointer : Option SlotPointer)
+        → IfSome pointer (λ p. P (record { lane = change.lane; slot = change.slot; pointer = p }))
+        → AllByRecursion P (slot_with change pointer (filter (λ held. not (is_slot_at change.lane change.slot held)) slots))
+    by_pointer None one = left
+    by_pointer (Some pointer) one =
+        each_inserted P (record { lane = change.lane; slot = change.slot; pointer = pointer })
+        (filter (λ held. not (is_slot_at change.lane change.slot held)) slots) one left
+
+-- slots go on rising once one was set or emptied
+pub rising_set : (slots : List SlotRecord) (change : SlotChange) → AreRisingSlots slots → AreRisingSlots (set_slot slots change)
+rising_set slots change rising = by_pointer change.pointer
+  where
+    left : AreRisingSlots (filter (λ held. not (is_slot_at change.lane change.slot held)) slots)
+    left = pairs_filter Before (λ held. not (is_slot_at change.lane change.slot held)) slots rising
+
+    by_pointer : (pointer : Option SlotPointer)
+        → AreRisingSlots (slot_with change pointer (filter (λ held. not (is_slot_at change.lane change.slot held)) slots))
+    by_pointer None = left
+    by_pointer (Some pointer) =
+        rising_inserted (record { lane = change.lane; slot = change.slot; pointer = pointer })
+        (filter (λ held. not (is_slot_at change.lane change.slot held)) slots)
+        (all_tested (λ held. not (is_slot_at change.lane change.slot held) ≡ true) (λ held. not (is_slot_at change.lane change.slot held))
+        (λ held other. other) slots) left
+
+-- and each of a lane that there can be
+pub slots_set : (slots : List SlotRecord) (change : SlotChange) → change.lane < 16 → change.slot < 65_536 → AreSlots slots
+    → AreSlots (set_slot slots change)
+slots_set slots change small fits are = record {
+  rising = rising_set slots change are.rising;
+  placed = each_set IsPlaced slots change (by_pointer change.pointer) are.placed;
 }
   where
-    new : SlotRecord
-    new = record { lane = lane; slot = slot; pointer = pointer }
+    by_pointer : (pointer : Option SlotPointer)
+        → IfSome pointer (λ p. IsPlaced (record { lane = change.lane; slot = change.slot; pointer = p }))
+    by_pointer None = tt
+    by_pointer (Some pointer) = record { lane = small; slot = fits }
+
+-- ---- Slots that are set one by one
+
+set_behind : (first new : SlotRecord) (slots : List SlotRecord) → Before first new
+    → set_slot (first ∷ slots) (held_as new) ≡ first ∷ set_slot slots (held_as new)
+set_behind first new slots before =
+    ap (λ b. insert_slot new (cond b (first ∷ filter (is_other new) slots) (filter (is_other new) slots)))
+    (elsewhere first.lane first.slot new.lane new.slot before)
+    ∙ ap (λ b. if b then new ∷ first ∷ filter (is_other new) slots else first ∷ insert_slot new (filter (is_other new) slots))
+    (not_ahead first.lane first.slot new.lane new.slot before)
+  where
+    elsewhere : (a b c d : ℕ) → (nat_lt a c || ((a == c) && nat_lt b d)) ≡ true → not ((a == c) && (b == d)) ≡ true
+    elsewhere a b c d first_before = grind (arith, nat_tests, first_before)
+
+    not_ahead : (a b c d : ℕ) → (nat_lt a c || ((a == c) && nat_lt b d)) ≡ true → (nat_lt c a || ((c == a) && nat_lt d b)) ≡ false
+    not_ahead a b c d first_before = grind (arith, nat_tests, first_before)
+
+held_behind : (first : SlotRecord) (more slots : List SlotRecord) → AllByRecursion (Before first) more
+    → all_held (first ∷ slots) more ≡ first ∷ all_held slots more
+held_behind first [] slots above = refl
+held_behind first (new ∷ more) slots above =
+    ap (λ (so_far : List SlotRecord). all_held so_far more) (set_behind first new slots above.0)
+    ∙ held_behind first more (set_slot slots (held_as new)) above.1
+
+-- rising slots come back when they are set one by one
+pub held_back : (slots : List SlotRecord) → AreRisingSlots slots → all_held [] slots ≡ slots
+held_back [] rising = refl
+held_back (first ∷ slots) rising =
+    held_behind first slots [] rising.0 ∙ ap (λ (more : List SlotRecord). first ∷ more) (held_back slots rising.1)
 
 -- ---- What is held then
 

@@ -1,5 +1,5 @@
 -- What a map's calls make of the list of its slots.
-use Rattle.std.proofs.Common.{◌≡◌, ℕ, ◌<◌, Bool, true, false, cond, not, ◌&&◌, ◌||◌, ◌==◌, List, [], ◌∷◌, length, filter, find, Some, None, refl, sym, ap, subst, ◌∙◌, arith}
+use Rattle.std.proofs.Common.{◌≡◌, ℕ, Bool, true, false, cond, not, ◌&&◌, ◌||◌, ◌==◌, List, [], ◌∷◌, length, filter, find, Some, None, refl, sym, ap, subst, ◌∙◌, arith}
 use Rattle.std.specs.Prelude.{nat_lt, if◌then◌else◌}
 use Rattle.std.specs.List.{AllByRecursion}
 use Rattle.std.specs.Map.{lookup, remove_entry}
@@ -17,8 +17,8 @@ use Rattle.pool_model.proofs.Lists.{all_from}
 use Rattle.slot_table.specs.declared.slot.SlotPlace.{SlotPlace}
 use Rattle.slot_table.specs.declared.slot.SlotRecord.{SlotRecord}
 use Rattle.slot_table.specs.contracts.slot.SlotPlaceOrd.TheImpl as ord
-use Rattle.slot_table.specs.Slots.{stands_before, is_slot_at, pointer_at, insert_slot, set_slot, AreSlots, slot_of, slots_of}
-use Rattle.slot_table.proofs.SlotLaws.{Before, is_other, stands_through, others_above, inserted_first, slots_set, slots_emptied}
+use Rattle.slot_table.specs.Slots.{stands_before, is_slot_at, pointer_at, insert_slot, set_slot, AreRisingSlots, slot_of, slots_of}
+use Rattle.slot_table.proofs.SlotLaws.{Before, is_other, stands_through, others_above, inserted_first, rising_set}
 
 -- the order of places
 abbrev pub place_cmp : SlotPlace → SlotPlace → Ordering
@@ -162,16 +162,17 @@ slots_of-remove place (pair ∷ pairs) rising =
 
 -- ---- They are slots in order
 
-pub slots_inserted : (place : SlotPlace) (pointer : SlotPointer) (pairs : List (SlotPlace × SlotPointer)) → place.lane < 16
-    → place.slot < 65_536 → AreSlots (slots_of pairs) → AreSlots (slots_of (insert_entry place_cmp pairs place pointer))
-slots_inserted place pointer pairs small fits are =
-    subst AreSlots (sym (slots_of-insert place pointer pairs are.rising))
-    (slots_set (slots_of pairs) place.lane place.slot (Some pointer) small fits are)
+pub rising_inserted_pair : (place : SlotPlace) (pointer : SlotPointer) (pairs : List (SlotPlace × SlotPointer))
+    → AreRisingSlots (slots_of pairs) → AreRisingSlots (slots_of (insert_entry place_cmp pairs place pointer))
+rising_inserted_pair place pointer pairs rising =
+    subst AreRisingSlots (sym (slots_of-insert place pointer pairs rising))
+    (rising_set (slots_of pairs) (record { lane = place.lane; slot = place.slot; pointer = Some pointer }) rising)
 
-pub slots_removed : (place : SlotPlace) (pairs : List (SlotPlace × SlotPointer)) → AreSlots (slots_of pairs)
-    → AreSlots (slots_of (remove_entry (is_at (place_cmp place)) pairs))
-slots_removed place pairs are =
-    subst AreSlots (sym (slots_of-remove place pairs are.rising)) (slots_emptied (slots_of pairs) place.lane place.slot are)
+pub rising_removed_pair : (place : SlotPlace) (pairs : List (SlotPlace × SlotPointer)) → AreRisingSlots (slots_of pairs)
+    → AreRisingSlots (slots_of (remove_entry (is_at (place_cmp place)) pairs))
+rising_removed_pair place pairs rising =
+    subst AreRisingSlots (sym (slots_of-remove place pairs rising))
+    (rising_set (slots_of pairs) (record { lane = place.lane; slot = place.slot; pointer = None }) rising)
 
 pub length-slots_of : (pairs : List (SlotPlace × SlotPointer)) → length (slots_of pairs) ≡ length pairs
 length-slots_of [] = refl

@@ -1,5 +1,5 @@
 -- The slots of all lanes that hold a pointer, in rising order of lane and slot.
-use Rattle.std.specs.Prelude.{◌≡◌, ℕ, ◌<◌, Bool, true, not, ◌&&◌, ◌||◌, ◌==◌, nat_lt, List, [], ◌∷◌, filter, map, Option, Some, None, if◌then◌else◌}
+use Rattle.std.specs.Prelude.{◌≡◌, ℕ, ◌<◌, Bool, true, not, ◌&&◌, ◌||◌, ◌==◌, nat_lt, List, [], ◌∷◌, filter, fold, map, Option, Some, None, if◌then◌else◌}
 use Rattle.std.specs.List.{AllByRecursion, find}
 use Rattle.std.specs.Option.{option_map}
 use Rattle.ddt_entry.specs.declared.entry.Pointer.{Pointer as SlotPointer}
@@ -32,14 +32,25 @@ slot_with change (Some pointer) slots = insert_slot (record { lane = change.lane
 abbrev pub set_slot : List SlotRecord → SlotChange → List SlotRecord
 set_slot slots change = slot_with change change.pointer (filter (λ held. not (is_slot_at change.lane change.slot held)) slots)
 
+-- the change that makes a slot hold its pointer
+abbrev pub held_as : SlotRecord → SlotChange
+held_as held = record { lane = held.lane; slot = held.slot; pointer = Some held.pointer }
+
+-- slots that hold their pointers one after another
+abbrev pub all_held : (slots : List SlotRecord) → List SlotRecord → List SlotRecord
+all_held slots more = fold (λ so_far held. set_slot so_far (held_as held)) slots more
+
 -- a slot of a lane that there can be
 pub record IsPlaced (held : SlotRecord) : Type 0 where
   pub lane : held.lane < 16
   pub slot : held.slot < 65_536
 
+abbrev pub AreRisingSlots : List SlotRecord → Type 0
+AreRisingSlots slots = Pairwise (λ a b. stands_before a b ≡ true) slots
+
 -- the slots rise, each of a lane that there can be
 pub record AreSlots (slots : List SlotRecord) : Type 0 where
-  pub rising : Pairwise (λ a b. stands_before a b ≡ true) slots
+  pub rising : AreRisingSlots slots
   pub placed : AllByRecursion IsPlaced slots
 
 -- ---- A map from places to pointers, as the list of its slots

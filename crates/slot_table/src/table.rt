@@ -3,18 +3,19 @@ ghost use Rattle.std.specs.List.{AllByRecursion};
 ghost use Rattle.page_tree.specs.declared.fault.PageFault.TheVariants.{Memory as OutOfMemory};
 ghost use Rattle.slot_table.specs.Slots.{AreSlots, pointer_at, set_slot};
 
-use crate::slot::{SlotList, SlotPlace, SlotRecord};
+use crate::map::SlotMap;
+use crate::slot::{SlotList, SlotPlace};
 use ddt_entry::Pointer;
 use disk_model::Disk;
 use page_tree::{FindFault, PageFault, PagePtr, PageReader};
-use std::alloc::{AllocError, Global};
-use std::collections::BTreeMap;
+use pool_model::SlotChange;
+use std::alloc::Global;
 use std::marker::Model;
 
 /// The slots of all lanes that hold a pointer, which a contract sees as a list in rising order.
 #[derive(Drop)]
 pub struct SlotTable {
-    pointers: BTreeMap<SlotPlace, Pointer>,
+    slots: SlotMap,
 }
 
 impl Model for SlotTable {
@@ -23,11 +24,11 @@ impl Model for SlotTable {
 
     ghost Value = { List SlotRecord };
 
-    ghost use Rattle.slot_table.specs.Slots.{slots_of, AreSlots};
+    ghost use Rattle.slot_table.specs.Slots.{AreSlots};
 
-    ghost view = { λ table. slots_of table.pointers.entries };
+    ghost view = { λ table. table.slots };
 
-    ghost invariant = { λ table. AreSlots (slots_of table.pointers.entries) };
+    ghost invariant = { λ table. AreSlots table.slots };
 }
 
 impl SlotTable {
@@ -37,7 +38,7 @@ impl SlotTable {
         ensures { result ≡ [] }
     {
         SlotTable {
-            pointers: BTreeMap::new(alloc),
+            slots: SlotMap::new(alloc),
         }
     }
 
@@ -45,14 +46,14 @@ impl SlotTable {
     pub fn are_slots(&self)
         ensures { AreSlots self.now }
     {
-        let _pointers = &self.pointers;
+        let _slots = &self.slots;
     }
 
     /// How many slots hold a pointer.
     pub fn len(&self) -> u64
         ensures { result ≡ length self.now }
     {
-        self.pointers.len() as u64
+        self.slots.len()
     }
 
     /// What a slot holds. Takes no memory. Over lists in memory no sector is read, and there is no fault.
@@ -69,14 +70,7 @@ impl SlotTable {
         ensures fits { P.fits reader.new disk.now }
         ensures count { P.faults reader.old ≤ P.faults reader.new }
     {
-        Ok(self.found(SlotPlace { lane, slot }))
-    }
-
-    /// What the slot at a place holds.
-    fn found(&self, place: SlotPlace) -> Option<Pointer>
-        ensures { result ≡ pointer_at place.lane place.slot self.now }
-    {
-        self.pointers.get(&place).copied()
+        Ok(self.slots.get(SlotPlace { lane, slot }))
     }
 
     /// A slot holds this pointer from now on, or nothing. The error is want of memory; all slots are then as
@@ -98,34 +92,12 @@ impl SlotTable {
         ensures fits { P.fits reader.new disk.now }
         ensures count { P.faults reader.old ≤ P.faults reader.new }
     {
-        let place = SlotPlace { lane, slot };
-        match pointer {
-            Some(pointer) => Ok(self.hold(place, pointer)?),
-            None => {
-                self.empty(place);
-                Ok(())
-            }
-        }
-    }
-
-    /// The slot at a place holds this pointer from now on. The error is want of memory; all slots are then as
-    /// before.
-    fn hold(&mut self, place: SlotPlace, pointer: Pointer) -> Result<(), AllocError>
-        requires lane { place.lane < 16 }
-        requires slot { place.slot < 65_536 }
-        ensures held { OnOk result
-            (self.new ≡ set_slot self.old (record { lane = place.lane; slot = place.slot; pointer = Some pointer })) }
-        ensures refused { OnErr result (self.new ≡ self.old) }
-    {
-        self.pointers.insert(place, pointer)?;
-        Ok(())
-    }
-
-    /// The slot at a place holds nothing from now on.
-    fn empty(&mut self, place: SlotPlace)
-        ensures { self.new ≡ set_slot self.old (record { lane = place.lane; slot = place.slot; pointer = None }) }
-    {
-        let _gone = self.pointers.remove(&place);
+        let change = SlotChange {
+            lane,
+            slot,
+            pointer,
+        };
+        Ok(self.slots.set(&change)?)
     }
 
     /// All slots that hold a pointer, in rising order. The error is want of memory.
@@ -141,22 +113,6 @@ impl SlotTable {
         ensures fits { P.fits reader.new disk.now }
         ensures count { P.faults reader.old ≤ P.faults reader.new }
     {
-        Ok(self.listed(alloc)?)
-    }
-
-    /// The list of the slots. The error is want of memory.
-    fn listed(&self, alloc: Global) -> Result<SlotList, AllocError>
-        ensures { IfOk result (λ list. list.items ≡ self.now) }
-    {
-        let mut list = SlotList::new(alloc);
-        list.reserve(self.pointers.len() as u64)?;
-        'pointers: for (place, pointer) in &self.pointers {
-            list.push(SlotRecord {
-                lane: place.lane,
-                slot: place.slot,
-                pointer: *pointer,
-            });
-        }
-        Ok(list)
+        Ok(SlotList::from_vec(self.slots.slots(alloc)?))
     }
 }

@@ -16,7 +16,7 @@ use Rattle.pool_model.specs.Pool.{Pool}
 use Rattle.pool_model.specs.Table.{TableState}
 use Rattle.table_state.specs.Flat.{Flat, Reads, IsRead, StandsFor, table_in, pool_in}
 use Rattle.table_state.specs.SlotRecords.{slot_in}
-use Rattle.table_state.specs.declared.slot_record.SlotRecord.{SlotRecord}
+use Rattle.slot_table.specs.declared.slot.SlotRecord.{SlotRecord}
 
 -- a walk comes to one end
 pub one_walk : (image : Image) (before before' : List ℕ) (root : Option PagePtr) (after after' : List ℕ) (records records' : List (List ℕ))

@@ -14,7 +14,7 @@ use Rattle.table_state.specs.Flat.{Flat, SameIn, image_version, table_in, pointe
 use Rattle.table_state.specs.Pools.{Held, IsHeld}
 use Rattle.table_state.specs.Holding.{Holds}
 use Rattle.table_state.specs.Over.{StandsOver}
-use Rattle.table_state.specs.declared.slot_record.SlotRecord.{SlotRecord}
+use Rattle.slot_table.specs.declared.slot.SlotRecord.{SlotRecord}
 use Rattle.table_state.proofs.FlatLaws.{one_seal, one_keeping, one_state}
 use Rattle.table_state.proofs.Kept.{state_kept, seal_kept, flat_kept}
 

@@ -18,7 +18,7 @@ use Rattle.table_state.specs.Flat.{Flat, IsRead, StandsFor, Reads, SameIn, image
 use Rattle.uber_ring.specs.declared.seal.Seal.{Seal}
 use Rattle.table_state.specs.SealForms.{is_formed, modes_in, quota_in, slots_root, unique_root, duplicate_root, active_root, flushing_root}
 use Rattle.table_state.specs.Sealed.{SameBlocks}
-use Rattle.table_state.specs.declared.slot_record.SlotRecord.{SlotRecord}
+use Rattle.slot_table.specs.declared.slot.SlotRecord.{SlotRecord}
 
 -- a sector that is named holds the same
 same_there : (image c : Image) (sectors : List ℕ) (sector : ℕ) → SameIn image c sectors → list_any (λ other. other == sector) sectors ≡ true

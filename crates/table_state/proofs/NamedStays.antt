@@ -14,7 +14,7 @@ use Rattle.table_state.specs.Holding.{Holds}
 use Rattle.table_state.specs.Over.{StandsOver}
 use Rattle.table_state.specs.Pools.{Held}
 use Rattle.table_state.specs.Sound.{IsSound}
-use Rattle.table_state.specs.declared.slot_record.SlotRecord.{SlotRecord}
+use Rattle.slot_table.specs.declared.slot.SlotRecord.{SlotRecord}
 use Rattle.table_state.proofs.Held.{SamePointers, SameWaiting, holds_over, holds_kept}
 use Rattle.table_state.proofs.Kept.{pages_behind}
 use Rattle.pool_model.proofs.Lists.{all_from_both}

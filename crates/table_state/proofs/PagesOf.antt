@@ -1,5 +1,5 @@
 -- The pages that an image names are enough for the slots and the table that are read from it.
-use Rattle.std.proofs.Common.{◌≡◌, ℕ, ◌+◌, ◌<◌, ◌≤◌, Bool, true, false, cond, ◌&&◌, List, [], ◌∷◌, length, filter, fold, map, Option, sym, ap, subst, ◌∙◌, arith}
+use Rattle.std.proofs.Common.{◌≡◌, ℕ, ◌+◌, ◌<◌, ◌≤◌, Bool, true, false, cond, List, [], ◌∷◌, length, filter, fold, map, Option, sym, ap, subst, ◌∙◌, arith}
 use Rattle.std.specs.Prelude.{nat_lt, ◌==◌, if◌then◌else◌}
 use Rattle.std.specs.List.{AllByRecursion}
 use Rattle.std.specs.Ordering.{is_eq, is_lt}
@@ -13,9 +13,10 @@ use Rattle.page_tree.specs.ChainWrites.{pages_for}
 use Rattle.page_tree.specs.declared.pointer.PagePtr.{PagePtr}
 use Rattle.page_tree.proofs.ChainPages.{chain_pages}
 use Rattle.uber_ring.specs.declared.seal.Seal.{Seal}
-use Rattle.pool_model.specs.Table.{change_at, is_past, TableState}
-use Rattle.pool_model.specs.Logs.{last_changes, is_missing, Logs, Replays, is_left}
-use Rattle.table_state.specs.SealForms.{checkpoint_in, slots_root, unique_root, duplicate_root, active_root, flushing_root}
+use Rattle.pool_model.specs.Table.{TableState}
+use Rattle.pool_model.specs.Logs.{last_changes, Logs, is_left}
+use Rattle.pool_model.specs.Replaying.{Replays}
+use Rattle.table_state.specs.SealForms.{slots_root, unique_root, duplicate_root, active_root, flushing_root}
 use Rattle.table_state.specs.Flat.{Flat, IsRead, Reads, HoldTogether, table_in, logs_in}
 use Rattle.table_state.specs.Tables.{unique_in, duplicate_in, table_pages}
 use Rattle.pool_model.proofs.Lists.{all_from, length-cond, length-filter-le}

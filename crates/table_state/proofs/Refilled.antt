@@ -10,7 +10,7 @@ use Rattle.pool_model.specs.Pool.{Pool, Pointer, Mark, comes_before, since_of, t
 use Rattle.pool_model.specs.Table.{TableState, found, counted, home_of_pointers, IsApartFrom, waiting_in, Matches}
 use Rattle.table_state.specs.Flat.{mark_of, pointer_of}
 use Rattle.table_state.specs.Pools.{with_blocks, pool_after}
-use Rattle.table_state.specs.declared.slot_record.SlotRecord.{SlotRecord}
+use Rattle.slot_table.specs.declared.slot.SlotRecord.{SlotRecord}
 use Rattle.pool_model.proofs.Lists.{all_from}
 use Rattle.pool_model.proofs.Members.{all_kept, pairs_kept}
 use Rattle.table_state.specs.Slots.{kind_of, slot_of, refilled, refilled_pool}

@@ -19,12 +19,13 @@ use Rattle.table_state.specs.Flat.{pointer_of}
 use Rattle.table_state.specs.Sealed.{records_in, entry_bytes}
 use Rattle.table_state.specs.Spelling.{slot_bytes}
 use Rattle.table_state.specs.Tables.{unique_in, duplicate_in, table_pages}
-use Rattle.table_state.specs.declared.slot_record.SlotRecord.{SlotRecord}
+use Rattle.slot_table.specs.declared.slot.SlotRecord.{SlotRecord}
 use Rattle.table_state.proofs.PagesOf.{pages_within_named}
 use Rattle.table_state.proofs.SlotsAfter.{length_after}
 use Rattle.table_state.proofs.TableRoom.{pages_after_plain}
 use Rattle.table_state.specs.Closing.{PlainClosed, block_places, pages_of, pool_with, records_after, table_after, kept_of, kept_after}
-use Rattle.pool_model.specs.Logs.{Logs, LoggedTable, logs_after}
+use Rattle.pool_model.specs.Logs.{Logs, logs_after}
+use Rattle.pool_model.specs.Replaying.{LoggedTable}
 
 -- ---- The pages of the five chains
 

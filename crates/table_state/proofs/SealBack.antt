@@ -10,11 +10,10 @@ use Rattle.page_tree.specs.declared.pointer.PagePtr.{PagePtr}
 use Rattle.uber_ring.specs.declared.seal.Seal.{Seal}
 use Rattle.pool_model.specs.declared.commands.Mode.{Mode}
 use Rattle.pool_model.specs.declared.commands.Mode.TheVariants.{Off, On, Verify}
-use Rattle.pool_model.specs.Table.{TableState}
 use Rattle.table_state.specs.SealForms.{fewest_sectors, most_sectors, last_group, is_flag, has_group, has_size, has_flags, is_formed, mode_in, modes_in, quota_in, checkpoint_in}
 use Rattle.table_state.specs.Spelling.{mode_byte}
 use Rattle.table_state.specs.Sealed.{seal_of, flag_of, quota_number, checkpoint_len, checkpoint_digest}
-use Rattle.pool_model.specs.Logs.{LoggedTable}
+use Rattle.pool_model.specs.Replaying.{LoggedTable}
 
 -- ---- The settings
 

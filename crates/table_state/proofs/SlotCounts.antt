@@ -9,13 +9,14 @@ use Rattle.std.proofs.lemmas.Bool.Decides.{nat_tests}
 use Rattle.ddt_entry.specs.declared.key.Key.{Key}
 use Rattle.ddt_entry.specs.declared.entry.Home.{Home}
 use Rattle.disk_model.specs.Images.{Image}
-use Rattle.pool_model.specs.Pool.{Pool, Pointer, Pairwise, tracks, tracked_at}
+use Rattle.pool_model.specs.Pool.{Pool, Pointer, tracks, tracked_at}
 use Rattle.pool_model.specs.Table.{TableState, found, counted, home_of_pointers, Matches}
-use Rattle.table_state.specs.Flat.{stands_before, pointer_of, table_in}
+use Rattle.slot_table.specs.Slots.{stands_before, AreRisingSlots}
+use Rattle.table_state.specs.Flat.{pointer_of, table_in}
 use Rattle.table_state.specs.Pools.{Held, IsHeld}
 use Rattle.table_state.specs.Sound.{IsSound}
 use Rattle.table_state.specs.SlotRecords.{is_slot}
-use Rattle.table_state.specs.declared.slot_record.SlotRecord.{SlotRecord}
+use Rattle.slot_table.specs.declared.slot.SlotRecord.{SlotRecord}
 use Rattle.std.proofs.lemmas.List.{length-map}
 use Rattle.pool_model.proofs.Lists.{length-filter-le}
 
@@ -38,7 +39,7 @@ number_rises a b before last = grind (arith, nat_tests)
 
 -- slots that begin at a number leave room for no more than the numbers from there on
 length-from : (sectors group low : ℕ) (slots : List SlotRecord) → low ≤ 1048576 → AllByRecursion (λ slot. low ≤ number slot) slots
-    → AllByRecursion (λ slot. is_slot sectors group slot ≡ true) slots → Pairwise (λ a b. stands_before a b ≡ true) slots → length slots +
+    → AllByRecursion (λ slot. is_slot sectors group slot ≡ true) slots → AreRisingSlots slots → length slots +
     low ≤ 1048576
 length-from sectors group low [] most from within rising = omega arith
 length-from sectors group low (slot ∷ slots) most from within rising =
@@ -61,7 +62,7 @@ all_from_zero (slot ∷ slots) = (omega arith, all_from_zero slots)
 
 -- slots that rise are at most 1,048,576
 pub length-rising : (sectors group : ℕ) (slots : List SlotRecord) → AllByRecursion (λ slot. is_slot sectors group slot ≡ true) slots
-    → Pairwise (λ a b. stands_before a b ≡ true) slots → length slots ≤ 1048576
+    → AreRisingSlots slots → length slots ≤ 1048576
 length-rising sectors group slots within rising =
     omega (arith, length-from sectors group 0 slots (omega arith) (all_from_zero slots) within rising)
 

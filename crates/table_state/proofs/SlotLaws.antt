@@ -10,7 +10,7 @@ use Rattle.ddt_entry.specs.Bytes.{bytes_at, number_at, number_bytes, zeros, AreB
 use Rattle.ddt_entry.specs.Spelling.{KeyFits}
 use Rattle.ddt_entry.proofs.Bytes.{length-number_bytes, length-zeros, length-bytes_at, AreBytes-bytes_at, AreBytes-concat, AreBytes-number_bytes, number_at-is, number_at-lt, number_bytes-at_4, number_bytes-at_8}
 use Rattle.ddt_entry.proofs.Parts.{offset_of, part_of, cut, concat-cut}
-use Rattle.table_state.specs.declared.slot_record.SlotRecord.{SlotRecord}
+use Rattle.slot_table.specs.declared.slot.SlotRecord.{SlotRecord}
 use Rattle.table_state.specs.SlotRecords.{kind_at, slot_at, kind_said, is_slot, in_range, slot_of, slot_in}
 use Rattle.table_state.specs.Spelling.{kind_number, slot_bytes, FitsSlot, IsSlot, IsSlotForm}
 

@@ -11,8 +11,9 @@ use Rattle.pool_model.specs.declared.closed.SlotChange.{SlotChange}
 use Rattle.pool_model.specs.Pool.{Pool, Pointer, tracked, loose, is_at, comes_before, insert_pointer}
 use Rattle.pool_model.specs.Table.{TableState, found}
 use Rattle.table_state.specs.Flat.{mark_of, pointer_of, table_in}
-use Rattle.table_state.specs.Pools.{Held, IsHeld, is_slot_at, insert_slot, set_slot, slots_after}
-use Rattle.table_state.specs.declared.slot_record.SlotRecord.{SlotRecord}
+use Rattle.slot_table.specs.Slots.{is_slot_at, insert_slot, set_slot}
+use Rattle.table_state.specs.Pools.{Held, IsHeld, slots_after}
+use Rattle.slot_table.specs.declared.slot.SlotRecord.{SlotRecord}
 use Rattle.pool_model.proofs.Lists.{all_missed, filter_whole}
 use Rattle.table_state.specs.Slots.{kind_of, slot_of, change_to}
 

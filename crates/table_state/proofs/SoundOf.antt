@@ -14,17 +14,18 @@ use Rattle.ddt_entry.specs.declared.entry.SlotKind.{SlotKind}
 use Rattle.ddt_entry.specs.declared.record.Malformed.{Malformed}
 use Rattle.disk_model.specs.Images.{Image}
 use Rattle.uber_ring.specs.declared.seal.Seal.{Seal}
-use Rattle.pool_model.specs.Pool.{Pool, Pointer, Pairwise}
+use Rattle.pool_model.specs.Pool.{Pool, Pointer}
 use Rattle.pool_model.specs.Table.{TableState, IsTable, change_at, is_past}
 use Rattle.pool_model.specs.Logs.{last_changes, is_missing}
 use Rattle.table_state.specs.SealForms.{is_formed, has_group, has_size, has_flags, has_modes, has_checkpoint, fewest_sectors, most_sectors, last_group, checkpoint_in}
 use Rattle.table_state.specs.SlotRecords.{is_slot, in_range, slot_at, slot_in, kind_said, kind_at, slot_of as slot_said}
-use Rattle.table_state.specs.Flat.{Flat, IsRead, table_in, pointer_of, stands_before, logs_in}
+use Rattle.slot_table.specs.Slots.{AreRisingSlots}
+use Rattle.table_state.specs.Flat.{Flat, IsRead, table_in, pointer_of, logs_in}
 use Rattle.table_state.specs.Pools.{Held, IsHeld}
-use Rattle.pool_model.specs.Logs.{Replays}
+use Rattle.pool_model.specs.Replaying.{Replays}
 use Rattle.table_state.specs.Sound.{IsSound, HasKeyLengths}
 use Rattle.table_state.specs.Tables.{IsTableWithin, AreLogsWithin, HasLength, HaveKeyLengths}
-use Rattle.table_state.specs.declared.slot_record.SlotRecord.{SlotRecord}
+use Rattle.slot_table.specs.declared.slot.SlotRecord.{SlotRecord}
 use Rattle.pool_model.proofs.Lists.{all_filter}
 use Rattle.table_state.proofs.SlotCounts.{counts_held}
 use Rattle.pool_model.proofs.Sorted.{all_fold}
@@ -209,7 +210,7 @@ module _ (image : Image) (held : Held) (pool : Pool) (table : TableState) (is : 
         log_lengths = subst HaveKeyLengths (sym is.logs_are) (read_log_lengths image seal flat is.stands.read);
         replays = held_replays;
         sorted = subst IsTable (sym table_same) (is_table_in seal flat is.stands.whole);
-        slots_rising = subst (Pairwise (λ a b. stands_before a b ≡ true)) (sym is.slots_are) is.stands.whole.slots_rising;
+        slots_rising = subst AreRisingSlots (sym is.slots_are) is.stands.whole.slots_rising;
         counts = counts_held image held pool table is;
       }
 

@@ -14,7 +14,7 @@ use Rattle.page_tree.specs.Chains.{record_len}
 use Rattle.table_state.specs.SlotRecords.{slot_in, is_slot}
 use Rattle.table_state.specs.Spelling.{slot_bytes, FitsSlot}
 use Rattle.table_state.specs.Sealed.{entry_bytes}
-use Rattle.table_state.specs.declared.slot_record.SlotRecord.{SlotRecord}
+use Rattle.slot_table.specs.declared.slot.SlotRecord.{SlotRecord}
 use Rattle.pool_model.proofs.Lists.{all_from_both}
 use Rattle.table_state.proofs.SlotLaws.{written as slot_written, is_slot-from, length-slot}
 

@@ -16,14 +16,15 @@ use Rattle.table_state.specs.Flat.{Flat, IsRead, HoldTogether, StandsFor, IsWith
 use Rattle.table_state.specs.Tables.{unique_in, duplicate_in}
 use Rattle.table_state.specs.Pools.{with_blocks, pool_after}
 use Rattle.table_state.specs.Sealed.{ChainPart, places_in, roots_of, HoldsParts, entry_bytes, records_in, flat_of, seal_of, CanBeKept, CanStand, AreParts, SameBlocks, IsSealedImage}
-use Rattle.table_state.specs.declared.slot_record.SlotRecord.{SlotRecord}
+use Rattle.slot_table.specs.declared.slot.SlotRecord.{SlotRecord}
 use Rattle.page_tree.proofs.ChainBack.{chain_is_read_back}
 use Rattle.page_tree.proofs.OpenPlaces.{is_open-parts, is_open-from, open_places-below, open_places-parts}
 use Rattle.table_state.proofs.Kept.{pointers_kept}
 use Rattle.table_state.proofs.SealBack.{seal_modes_back, seal_quota_back, seal_checkpoint_back, seal_is_formed}
 use Rattle.table_state.proofs.TableBack.{table_back, unique_rises, duplicate_rises, unique_counted, duplicate_counted, unique_keeps, duplicate_keeps, one_class}
 use Rattle.table_state.proofs.Spelled.{slots_spelled, slots_long, entries_spelled, entries_long, changes_spelled, changes_long}
-use Rattle.pool_model.specs.Logs.{LoggedTable, left_in, last_changes}
+use Rattle.pool_model.specs.Logs.{left_in, last_changes}
+use Rattle.pool_model.specs.Replaying.{LoggedTable}
 
 -- places that are open on a disk are open on a longer one
 pub open_wider : (sectors longer : ℕ) → sectors ≤ longer → (named places : List ℕ) → AreOpen sectors named places

@@ -6,7 +6,8 @@ use Rattle.ddt_entry.specs.declared.entry.Change.{Change}
 use Rattle.ddt_entry.specs.declared.entry.Change.TheVariants as changes
 use Rattle.ddt_entry.specs.Spelling.{IsKeyLength}
 use Rattle.pool_model.specs.Table.{TableState, sync_table}
-use Rattle.pool_model.specs.Logs.{Logs, LoggedTable, sync_logged}
+use Rattle.pool_model.specs.Logs.{Logs}
+use Rattle.pool_model.specs.Replaying.{LoggedTable, sync_logged}
 use Rattle.table_state.specs.Flat.{IsWithin, IsChangeWithin}
 use Rattle.table_state.specs.Sound.{HasKeyLengths}
 use Rattle.table_state.specs.Tables.{IsTableWithin, AreLogsWithin, HasLength, HaveKeyLengths}

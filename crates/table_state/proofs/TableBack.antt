@@ -1,9 +1,9 @@
 -- A table that is read from an image is sorted and within its ranges, and the lists that a table is split into give it back.
-use Rattle.std.proofs.Common.{◌≡◌, ℕ, ◌<◌, Bool, true, false, not, ◌&&◌, List, [], filter, fold, Option, Some, None, option_map, refl, ap, ◌∙◌, arith, sym}
+use Rattle.std.proofs.Common.{◌≡◌, ℕ, ◌<◌, Bool, true, false, not, ◌&&◌, List, [], fold, Option, Some, None, option_map, refl, ap, ◌∙◌, arith, sym}
 use Rattle.std.specs.Prelude.{nat_lt, ◌==◌}
 use Rattle.std.specs.List.{AllByRecursion}
 use Rattle.std.specs.Ordering.{is_lt}
-use Rattle.std.proofs.lemmas.Bool.{and_parts, and_from, eqb-true, ltb-true, lt-ltb}
+use Rattle.std.proofs.lemmas.Bool.{and_parts, eqb-true, ltb-true, lt-ltb}
 use Rattle.std.proofs.lemmas.Bool.Decides.{nat_tests}
 use Rattle.ddt_entry.specs.Keys.{key_cmp, key_eq}
 use Rattle.ddt_entry.specs.Changes.{key_in}
@@ -12,13 +12,14 @@ use Rattle.ddt_entry.specs.declared.entry.Entry.{Entry}
 use Rattle.ddt_entry.specs.declared.entry.Change.{Change}
 use Rattle.ddt_entry.proofs.KeyLaws.{key_eq-symm}
 use Rattle.uber_ring.specs.declared.seal.Seal.{Seal}
-use Rattle.pool_model.specs.Table.{TableState, entry_at, change_at, set_entry, AreRising, is_past, IsTable, AreChangesRising}
-use Rattle.pool_model.specs.Logs.{last_changes, is_missing, left_in, Logs, LoggedTable, Replays}
+use Rattle.pool_model.specs.Table.{TableState, entry_at, change_at, set_entry, AreRising, is_past, IsTable}
+use Rattle.pool_model.specs.Logs.{last_changes, is_missing, left_in, Logs}
+use Rattle.pool_model.specs.Replaying.{LoggedTable, Replays}
 use Rattle.table_state.specs.SealForms.{checkpoint_in}
 use Rattle.table_state.specs.Flat.{Flat, HoldTogether, IsWithin, IsChangeWithin, table_in, logs_in}
 use Rattle.table_state.specs.Tables.{IsTableWithin, unique_in, duplicate_in}
-use Rattle.pool_model.proofs.Lists.{all_from, all_from_both, all_each, all_filter, all_tested, filter_whole, pairs_filter, pairs_from, classes_apart, none_found}
-use Rattle.pool_model.proofs.Sorted.{rising_fold, all_fold, fold_back, split_back}
+use Rattle.pool_model.proofs.Lists.{all_from, all_each, all_filter, all_tested, pairs_filter, pairs_from, classes_apart, none_found}
+use Rattle.pool_model.proofs.Sorted.{rising_fold, all_fold, split_back}
 use Rattle.pool_model.proofs.TablePuts.{entries_put, changes_put, apart_by_order}
 
 missing_none : (o : Option Change) → is_missing o ≡ true → o ≡ None

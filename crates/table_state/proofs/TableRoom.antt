@@ -1,18 +1,17 @@
 -- How much longer a sync makes the lists of a table, and how many pages more they take.
-use Rattle.std.proofs.Common.{◌≡◌, ℕ, ◌+◌, ◌*◌, ◌≤◌, Bool, true, false, not, List, [], ◌∷◌, length, fold, take, length-take, length-drop, filter, None, refl, sym, ap, subst, arith}
+use Rattle.std.proofs.Common.{◌≡◌, ℕ, ◌+◌, ◌*◌, ◌≤◌, Bool, true, false, not, List, [], ◌∷◌, length, fold, take, length-take, filter, None, refl, sym, ap, subst, arith}
 use Rattle.std.specs.Prelude.{nat_lt, ◌==◌, if◌then◌else◌}
 use Rattle.ddt_entry.specs.Keys.{key_eq}
-use Rattle.ddt_entry.specs.Changes.{key_in}
 use Rattle.ddt_entry.specs.declared.entry.Entry.{Entry}
 use Rattle.ddt_entry.specs.declared.entry.Change.{Change}
 use Rattle.ddt_entry.specs.declared.entry.Change.TheVariants as changes
 use Rattle.page_tree.specs.ChainWrites.{pages_for}
 use Rattle.pool_model.specs.Table.{TableState, set_entry, drop_entry, log_change, logged, flush_entry, flushed, is_due, aged, swapped, flush_limit, sync_table}
 use Rattle.table_state.specs.Tables.{unique_in, duplicate_in, table_pages}
-use Rattle.pool_model.proofs.Lists.{passing_filter, length-filter-le}
-use Rattle.pool_model.proofs.Sorted.{passing_put, length-put}
-use Rattle.pool_model.proofs.TablePuts.{entries_put, changes_put}
-use Rattle.pool_model.specs.Logs.{LoggedTable, sync_logged}
+use Rattle.pool_model.proofs.Lists.{passing_filter}
+use Rattle.pool_model.proofs.Sorted.{passing_put}
+use Rattle.pool_model.proofs.TablePuts.{entries_put}
+use Rattle.pool_model.specs.Replaying.{LoggedTable, sync_logged}
 use Rattle.pool_model.proofs.Replays.{logs_length}
 
 -- ---- The stored table

@@ -24,7 +24,7 @@ use Rattle.pool_model.specs.Table.{TableState, set_found, set_entry, drop_entry,
 use Rattle.table_state.specs.Flat.{pointer_of}
 use Rattle.table_state.specs.Pools.{pool_after, with_blocks}
 use Rattle.table_state.specs.SlotRecords.{is_slot}
-use Rattle.table_state.specs.declared.slot_record.SlotRecord.{SlotRecord}
+use Rattle.slot_table.specs.declared.slot.SlotRecord.{SlotRecord}
 use Rattle.pool_model.proofs.Lists.{all_from, all_filter}
 use Rattle.table_state.proofs.SlotLaws.{is_slot-from}
 use Rattle.pool_model.proofs.Sorted.{all_put}

@@ -13,7 +13,8 @@ use Rattle.pool_model.specs.declared.closed.SlotChange.{SlotChange}
 use Rattle.pool_model.specs.Pool.{Pool, IsWellFormed}
 use Rattle.pool_model.specs.Mirrors.{Stored, stored_of}
 use Rattle.pool_model.specs.Table.{TableState, Matches, found, sync_table, waiting_in}
-use Rattle.pool_model.specs.Logs.{LoggedTable, sync_logged, logs_after}
+use Rattle.pool_model.specs.Logs.{logs_after}
+use Rattle.pool_model.specs.Replaying.{LoggedTable, sync_logged}
 use Rattle.pool_model.specs.Group.{Standing}
 use Rattle.table_state.specs.Flat.{IsChangeWithin}
 use Rattle.table_state.specs.Pools.{Held, IsHeld, slots_after, pool_after, with_blocks}

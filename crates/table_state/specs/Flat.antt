@@ -1,6 +1,6 @@
 -- What a flat image stands for: a pool of pointers with the state of its table. This is version 0 of the image, in which five
 -- chains keep the slots, the two classes of the stored table, and the two logs.
-use Rattle.std.specs.Prelude.{◌≡◌, ℕ, ◌<◌, ◌≤◌, ◌^◌, ⊤, Bool, true, false, ◌&&◌, ◌||◌, ◌==◌, nat_lt, List, [], length, take, map, fold, sum_by, Option, Some, None, Ok, if◌then◌else◌}
+use Rattle.std.specs.Prelude.{◌≡◌, ℕ, ◌<◌, ◌≤◌, ◌^◌, ⊤, true, false, ◌&&◌, ◌==◌, nat_lt, List, [], length, take, map, fold, sum_by, Option, Some, None, Ok, if◌then◌else◌}
 use Rattle.std.specs.List.{AllByRecursion, list_any}
 use Rattle.ddt_entry.specs.Records.{change_in}
 use Rattle.ddt_entry.specs.declared.entry.Home.{Home}
@@ -14,12 +14,13 @@ use Rattle.page_tree.specs.Chains.{chain_in}
 use Rattle.page_tree.specs.declared.pointer.PagePtr.{PagePtr}
 use Rattle.uber_ring.specs.Ring.{newest}
 use Rattle.uber_ring.specs.declared.seal.Seal.{Seal}
-use Rattle.pool_model.specs.Pool.{Pool, Pointer, Mark, plain, tracked, loose, Pairwise, IsWellFormed}
+use Rattle.pool_model.specs.Pool.{Pool, Pointer, Mark, plain, tracked, loose, IsWellFormed}
 use Rattle.pool_model.specs.Table.{TableState, entry_at, set_entry, found, AreRising, counted_homes, Matches, waiting_in}
 use Rattle.pool_model.specs.Logs.{last_changes, left_in, Logs}
 use Rattle.table_state.specs.SealForms.{is_formed, modes_in, quota_in, checkpoint_in, slots_root, unique_root, duplicate_root, active_root, flushing_root}
+use Rattle.slot_table.specs.Slots.{AreRisingSlots}
 use Rattle.table_state.specs.SlotRecords.{slot_in}
-use Rattle.table_state.specs.declared.slot_record.SlotRecord.{SlotRecord}
+use Rattle.slot_table.specs.declared.slot.SlotRecord.{SlotRecord}
 
 -- the version of the image that is read and written
 abbrev pub image_version : ℕ
@@ -73,14 +74,10 @@ abbrev pub IsChangeWithin : (sectors group : ℕ) → Change → Type 0
 IsChangeWithin sectors group (changes.Entry entry) = IsWithin sectors group entry
 IsChangeWithin sectors group (changes.Gone key) = ⊤
 
--- slots rise by lane and slot
-abbrev pub stands_before : SlotRecord → SlotRecord → Bool
-stands_before a b = nat_lt a.lane b.lane || ((a.lane == b.lane) && nat_lt a.slot b.slot)
-
 -- the rules that the parts of an image keep together
 pub record HoldTogether (seal : Seal) (flat : Flat) : Type 0 where
   pub pages_within : AllByRecursion (λ sector. sector < seal.sectors) flat.named
-  pub slots_rising : Pairwise (λ a b. stands_before a b ≡ true) flat.slots
+  pub slots_rising : AreRisingSlots flat.slots
   pub unique_within : AllByRecursion (IsWithin seal.sectors seal.group) flat.unique
   pub duplicate_within : AllByRecursion (IsWithin seal.sectors seal.group) flat.duplicate
   pub active_within : AllByRecursion (IsChangeWithin seal.sectors seal.group) flat.active

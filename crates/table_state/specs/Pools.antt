@@ -1,6 +1,5 @@
 -- A pool in memory, and what it stands for over the newest sealed image.
-use Rattle.std.specs.Prelude.{◌≡◌, ℕ, Bool, not, if◌then◌else◌, ◌&&◌, ◌==◌, List, [], ◌∷◌, length, map, fold, filter, replicate, slice_set, ◌++◌, Option, Some, None, ◌-◌}
-use Rattle.ddt_entry.specs.declared.entry.Pointer.{Pointer as SlotPointer}
+use Rattle.std.specs.Prelude.{◌≡◌, ℕ, Bool, List, [], length, map, fold, replicate, slice_set, ◌++◌, Option, None, ◌-◌}
 use Rattle.disk_model.specs.Images.{Image}
 use Rattle.pool_model.specs.declared.commands.Mode.{Mode}
 use Rattle.pool_model.specs.declared.closed.SlotChange.{SlotChange}
@@ -11,8 +10,9 @@ use Rattle.pool_model.specs.Mirrors.{Stored}
 use Rattle.pool_model.specs.Space.{used_sectors}
 use Rattle.pool_model.specs.Table.{TableState, empty_table}
 use Rattle.pool_model.specs.Logs.{Logs, empty_logs}
-use Rattle.table_state.specs.Flat.{StandsFor, stands_before, pointer_of, logs_in}
-use Rattle.table_state.specs.declared.slot_record.SlotRecord.{SlotRecord}
+use Rattle.slot_table.specs.Slots.{set_slot}
+use Rattle.table_state.specs.Flat.{StandsFor, pointer_of, logs_in}
+use Rattle.slot_table.specs.declared.slot.SlotRecord.{SlotRecord}
 
 -- what a pool in memory keeps: the slots, the table and its logs, the sectors of the image's pages, which sectors are used, the settings, and
 -- the seal's numbers
@@ -57,22 +57,6 @@ new_held tag sectors = record {
 }
 
 -- ---- What a sync makes of it
-
-abbrev pub is_slot_at : (lane slot : ℕ) → SlotRecord → Bool
-is_slot_at lane slot held = (held.lane == lane) && (held.slot == slot)
-
--- slots in rising order, with one more at its place
-abbrev pub insert_slot : SlotRecord → List SlotRecord → List SlotRecord
-insert_slot new [] = new ∷ []
-insert_slot new (held ∷ slots) = if stands_before new held then new ∷ held ∷ slots else held ∷ insert_slot new slots
-
-abbrev pub slot_with : SlotChange → Option SlotPointer → List SlotRecord → List SlotRecord
-slot_with change None slots = slots
-slot_with change (Some pointer) slots = insert_slot (record { lane = change.lane; slot = change.slot; pointer = pointer }) slots
-
--- the slots after one of them changed: what it held goes, and what it holds now comes
-abbrev pub set_slot : List SlotRecord → SlotChange → List SlotRecord
-set_slot slots change = slot_with change change.pointer (filter (λ held. not (is_slot_at change.lane change.slot held)) slots)
 
 abbrev pub slots_after : List SlotChange → List SlotRecord → List SlotRecord
 slots_after changes slots = fold set_slot slots changes

@@ -15,17 +15,18 @@ use Rattle.uber_ring.specs.Ring.{newest}
 use Rattle.uber_ring.specs.declared.seal.Seal.{Seal}
 use Rattle.pool_model.specs.declared.commands.Mode.{Mode}
 use Rattle.pool_model.specs.declared.closed.SlotChange.{SlotChange}
-use Rattle.pool_model.specs.Pool.{Pool, Pairwise, IsWellFormed}
+use Rattle.pool_model.specs.Pool.{Pool, IsWellFormed}
 use Rattle.pool_model.specs.Mirrors.{Stored}
 use Rattle.pool_model.specs.Table.{TableState, Matches, waiting_in, counted_homes, IsTable}
-use Rattle.pool_model.specs.Logs.{LoggedTable, Replays}
+use Rattle.pool_model.specs.Replaying.{LoggedTable, Replays}
 use Rattle.table_state.specs.SealForms.{fewest_sectors, most_sectors, last_group}
 use Rattle.table_state.specs.Spelling.{mode_byte, slot_bytes, FitsSlot}
 use Rattle.table_state.specs.SlotRecords.{is_slot}
-use Rattle.table_state.specs.Flat.{Flat, image_version, stands_before, IsClear, IsWithin}
+use Rattle.slot_table.specs.Slots.{AreRisingSlots}
+use Rattle.table_state.specs.Flat.{Flat, image_version, IsClear, IsWithin}
 use Rattle.table_state.specs.Tables.{AreLogsWithin, HaveKeyLengths, unique_in, duplicate_in}
 use Rattle.table_state.specs.Pools.{with_blocks}
-use Rattle.table_state.specs.declared.slot_record.SlotRecord.{SlotRecord}
+use Rattle.slot_table.specs.declared.slot.SlotRecord.{SlotRecord}
 
 -- a chain that is to be written: its records, and a place for each page
 pub record ChainPart : Type 0 where
@@ -115,7 +116,7 @@ pub record CanBeKept (sectors group : ℕ) (slots : List SlotRecord) (kept : Log
   pub first : 1 ≤ group
   pub last : group ≤ last_group
   pub slots_within : AllByRecursion (λ slot. is_slot sectors group slot ≡ true) slots
-  pub slots_rising : Pairwise (λ a b. stands_before a b ≡ true) slots
+  pub slots_rising : AreRisingSlots slots
   pub slots_fit : AllByRecursion FitsSlot slots
   pub sorted : IsTable kept.table
   pub replays : Replays kept.table kept.logs

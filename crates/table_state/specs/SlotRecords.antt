@@ -14,7 +14,7 @@ use Rattle.ddt_entry.specs.Bytes.{bytes_at, number_at}
 use Rattle.ddt_entry.specs.Records.{is_key_length}
 use Rattle.ddt_entry.specs.declared.entry.SlotKind.{SlotKind}
 use Rattle.ddt_entry.specs.declared.entry.SlotKind.TheVariants.{Plain, Flagged}
-use Rattle.table_state.specs.declared.slot_record.SlotRecord.{SlotRecord}
+use Rattle.slot_table.specs.declared.slot.SlotRecord.{SlotRecord}
 
 -- the number that stands where the kind does
 abbrev pub kind_at : List ℕ → ℕ

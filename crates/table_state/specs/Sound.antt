@@ -4,14 +4,13 @@ use Rattle.std.specs.List.{AllByRecursion}
 use Rattle.ddt_entry.specs.Spelling.{IsKeyLength}
 use Rattle.ddt_entry.specs.declared.key.Key.{Key}
 use Rattle.ddt_entry.specs.declared.entry.Home.{Home}
-use Rattle.pool_model.specs.Pool.{Pairwise}
 use Rattle.pool_model.specs.Table.{TableState, IsTable, found}
-use Rattle.table_state.specs.Flat.{stands_before}
+use Rattle.slot_table.specs.Slots.{AreRisingSlots}
 use Rattle.table_state.specs.Pools.{Held}
 use Rattle.table_state.specs.SealForms.{fewest_sectors, most_sectors, last_group}
 use Rattle.table_state.specs.SlotRecords.{is_slot}
 use Rattle.table_state.specs.Tables.{IsTableWithin, AreLogsWithin, HasLength, HaveKeyLengths}
-use Rattle.pool_model.specs.Logs.{Replays}
+use Rattle.pool_model.specs.Replaying.{Replays}
 
 -- each key of a table has a length that a key can have
 pub record HasKeyLengths (table : TableState) : Type 0 where
@@ -27,7 +26,7 @@ pub record IsSound (held : Held) : Type 0 where
   pub used_len : length held.used ≡ held.sectors
   pub ring : (sector : ℕ) → sector < 32 → slice_index_or held.used sector true ≡ true
   pub slots_within : AllByRecursion (λ slot. is_slot held.sectors held.group slot ≡ true) held.slots
-  pub slots_rising : Pairwise (λ a b. stands_before a b ≡ true) held.slots
+  pub slots_rising : AreRisingSlots held.slots
   pub within : IsTableWithin held.sectors held.group held.table
   pub lengths : HasKeyLengths held.table
   pub logs_within : AreLogsWithin held.sectors held.group held.logs

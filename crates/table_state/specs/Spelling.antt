@@ -4,7 +4,7 @@ use Rattle.ddt_entry.specs.Bytes.{number_bytes, zeros}
 use Rattle.ddt_entry.specs.Spelling.{IsKeyLength, KeyFits}
 use Rattle.ddt_entry.specs.declared.entry.SlotKind.{SlotKind}
 use Rattle.ddt_entry.specs.declared.entry.SlotKind.TheVariants.{Plain, Flagged}
-use Rattle.table_state.specs.declared.slot_record.SlotRecord.{SlotRecord}
+use Rattle.slot_table.specs.declared.slot.SlotRecord.{SlotRecord}
 use Rattle.table_state.specs.SlotRecords.{kind_at, slot_at}
 use Rattle.table_state.specs.Flat.{image_version}
 use Rattle.page_tree.specs.Pointers.{null_pointer}

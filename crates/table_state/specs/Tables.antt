@@ -7,7 +7,8 @@ use Rattle.ddt_entry.specs.Changes.{key_in}
 use Rattle.ddt_entry.specs.Spelling.{IsKeyLength}
 use Rattle.ddt_entry.specs.declared.entry.Change.{Change}
 use Rattle.pool_model.specs.Table.{TableState}
-use Rattle.pool_model.specs.Logs.{Logs, LoggedTable}
+use Rattle.pool_model.specs.Logs.{Logs}
+use Rattle.pool_model.specs.Replaying.{LoggedTable}
 use Rattle.table_state.specs.Flat.{IsWithin, IsChangeWithin}
 
 -- each number of its entries is in its range

@@ -31,7 +31,7 @@ mod setting;
 mod slot_record;
 
 pub use block::sector_of;
-pub use pool::{Pool, SlotList};
+pub use pool::Pool;
 pub use seal_form::{IMAGE_VERSION, LAST_GROUP, MOST_SECTORS, is_formed, new_seal};
 pub use setting::{byte_of, mode_of};
-pub use slot_record::{SLOT_RECORD_BYTES, SlotRecord, key_fits, read_slot, slot_fits, write_slot};
+pub use slot_record::{SLOT_RECORD_BYTES, key_fits, read_slot, slot_fits, write_slot};

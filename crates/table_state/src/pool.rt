@@ -1,19 +1,15 @@
-use crate::slot_record::SlotRecord;
 use grant_book::SectorSet;
 use page_tree::SectorList;
 use plain_table::{KeptLogs, PlainTable};
 use pool_model::Mode;
-use reserved_list::ReservedList;
+use slot_table::SlotMap;
 use std::marker::Model;
-
-/// Slots that hold a pointer.
-pub type SlotList = ReservedList<SlotRecord>;
 
 /// A pool in memory, as the newest sealed group left it.
 #[derive(Drop)]
 pub struct Pool {
     /// The slots that hold a pointer, in rising order of lane and slot.
-    pub slots: SlotList,
+    pub slots: SlotMap,
     /// The dedup table with its logs.
     pub table: PlainTable,
     /// The changes of its logs, in the order in which they were appended.
@@ -40,7 +36,7 @@ impl Model for Pool {
     ghost Value = { Held };
 
     ghost view = { λ pool. record {
-      slots = pool.slots.items;
+      slots = pool.slots;
       table = pool.table;
       logs = pool.logs;
       pages = pool.pages.items;

@@ -7,7 +7,6 @@ ghost use Rattle.pool_model.specs.Space.{need, space_lacking};
 ghost use Rattle.pool_model.specs.Table.{flush_limit};
 
 use crate::pool::Pool;
-use ddt_entry::Change;
 use pool_model::Outcome;
 use std::mem::size_of_val;
 
@@ -41,7 +40,7 @@ impl Pool {
         requires writes_fit { writes ≤ 1_048_576 }
         ensures { result ≡ need (length self.now.pages) (flush_limit self.now.table) commands writes }
     {
-        let growth = 3 * (64 + count_changes(&self.table.flush) / 8) + 200;
+        let growth = 3 * (64 + self.table.flush.len() / 8) + 200;
         let metadata = self.pages() + 6 * commands + growth;
         if writes == 0 {
             return metadata;
@@ -71,12 +70,4 @@ fn count_sectors(sectors: &[u64]) -> u64
     ensures few { result < 2 ^ 61 }
 {
     size_of_val(sectors) as u64 / 8
-}
-
-/// How many changes a log has. A list has room for fewer than 2^63 items.
-fn count_changes(log: &Vec<Change>) -> u64
-    ensures count { result ≡ length log.now.items }
-    ensures few { result < 2 ^ 63 }
-{
-    log.len() as u64
 }

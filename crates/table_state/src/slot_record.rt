@@ -2,12 +2,13 @@
 
 ghost use Rattle.std.specs.Prelude.{◌≡◌, Option, Some, None};
 ghost use Rattle.ddt_entry.specs.Spelling.{KeyFits};
-ghost use Rattle.table_state.specs.declared.slot_record.SlotRecord.{SlotRecord};
+ghost use Rattle.slot_table.specs.declared.slot.SlotRecord.{SlotRecord};
 ghost use Rattle.table_state.specs.SlotRecords.{kind_said, slot_at, is_slot, slot_in};
 ghost use Rattle.table_state.specs.Spelling.{kind_number, slot_bytes, FitsSlot};
 
 use ddt_entry::fields::{array_at, u32_at, u64_at};
 use ddt_entry::{Key, MAX_BLOCK_BYTES, Pointer, SlotKind};
+use slot_table::SlotRecord;
 
 /// The bytes of a slot's record.
 pub const SLOT_RECORD_BYTES: usize = 72;
@@ -29,17 +30,6 @@ const PLAIN: u32 = 1;
 
 /// The kind of a record whose pointer is flagged.
 const FLAGGED: u32 = 2;
-
-/// A slot that holds a pointer.
-#[derive(Clone, Copy, Debug, PartialEq, Eq)]
-pub struct SlotRecord {
-    /// The number of the lane.
-    pub lane: u32,
-    /// The number of the slot in its lane.
-    pub slot: u32,
-    /// What the slot holds.
-    pub pointer: Pointer,
-}
 
 /// The number that stands for a kind.
 fn number_of(kind: SlotKind) -> u32

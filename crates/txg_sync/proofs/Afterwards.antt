@@ -17,7 +17,8 @@ use Rattle.pool_model.specs.Pool.{Pool, Pointer, Pairwise}
 use Rattle.pool_model.specs.Mirrors.{Stored}
 use Rattle.pool_model.specs.Space.{is_used, used_sectors}
 use Rattle.pool_model.specs.Table.{TableState, found, waiting_in, IsTable}
-use Rattle.table_state.specs.Flat.{Flat, StandsFor, IsClear, IsWithin, IsChangeWithin, stands_before, pointer_of, logs_in}
+use Rattle.slot_table.specs.Slots.{stands_before}
+use Rattle.table_state.specs.Flat.{Flat, StandsFor, IsClear, IsWithin, IsChangeWithin, pointer_of, logs_in}
 use Rattle.table_state.specs.Holding.{Holds, WaitingStand}
 use Rattle.table_state.specs.Over.{StandsOver}
 use Rattle.table_state.specs.Pools.{Held, IsHeld, slots_after, pool_after, with_blocks}
@@ -27,7 +28,7 @@ use Rattle.table_state.specs.Spelling.{FitsSlot}
 use Rattle.table_state.specs.Sound.{IsSound, HasKeyLengths}
 use Rattle.table_state.specs.Sealed.{ChainPart, places_in, records_in, roots_of, seal_of, flat_of, CanBeKept, AreParts, CanStand, IsSealedImage}
 use Rattle.table_state.specs.Tables.{IsTableWithin, AreLogsWithin, HaveKeyLengths}
-use Rattle.table_state.specs.declared.slot_record.SlotRecord.{SlotRecord}
+use Rattle.slot_table.specs.declared.slot.SlotRecord.{SlotRecord}
 use Rattle.table_state.proofs.SlotLaws.{is_slot-from}
 use Rattle.table_state.proofs.SlotsAfter.{rising_after, within_after, within_later}
 use Rattle.table_state.proofs.Stands.{sealed_stands, sealed_by, sealed_keeps}
@@ -39,7 +40,8 @@ use Rattle.table_state.specs.Closing.{PlainClosed, CanSync, IsInRange, IsNamed, 
 use Rattle.txg_sync.specs.Planning.{IsPlan}
 use Rattle.txg_sync.specs.Writing.{IsSealed, with_roots}
 use Rattle.txg_sync.proofs.Outcomes.{apart_from_unused}
-use Rattle.pool_model.specs.Logs.{Logs, LoggedTable, Replays}
+use Rattle.pool_model.specs.Logs.{Logs}
+use Rattle.pool_model.specs.Replaying.{LoggedTable, Replays}
 use Rattle.pool_model.proofs.Replays.{sync_replays}
 
 -- the values of slots, of a table and of its logs have a spelling
@@ -214,11 +216,11 @@ module _ (held : Held) (closed : PlainClosed) (sound : IsSound held) (range : Is
       last = last;
       slots_within = within';
       slots_rising = rising_after closed.slots held.slots sound.slots_rising;
-      slots_fit = spelt'.slots_fit;
       sorted = sorted';
       replays = replays';
       zap_within = table_within'.zap;
       logs_within = logs_within';
+      slots_fit = spelt'.slots_fit;
       zap_fits = spelt'.zap;
       active_fits = spelt'.active;
       flushing_fits = spelt'.flushing;

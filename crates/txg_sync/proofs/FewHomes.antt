@@ -2,20 +2,20 @@
 use Rattle.std.proofs.Common.{◌≡◌, ◌∙◌, ◌^◌, ◌<◌, ◌≤◌, List, [], length, ap, sym, subst, arith}
 use Rattle.page_tree.proofs.OpenPlaces.{open_places-fewer}
 use Rattle.pool_model.specs.Mirrors.{Stored}
-use Rattle.pool_model.specs.Table.{TableState, IsTable, entries_found, sync_table}
+use Rattle.pool_model.specs.Table.{IsTable, entries_found}
 use Rattle.pool_model.proofs.Syncing.{sync_keeps}
 use Rattle.ddt_entry.specs.declared.entry.Change.{Change}
 use Rattle.table_state.specs.Pools.{Held}
 use Rattle.table_state.specs.Sealed.{ChainPart, places_in, records_in}
 use Rattle.table_state.specs.Sound.{IsSound}
 use Rattle.table_state.specs.Tables.{table_pages}
-use Rattle.table_state.specs.declared.slot_record.SlotRecord.{SlotRecord}
+use Rattle.slot_table.specs.declared.slot.SlotRecord.{SlotRecord}
 use Rattle.table_state.proofs.RoomLaws.{pages_of_records}
 use Rattle.table_state.specs.Closing.{pages_of, kept_of}
 use Rattle.txg_sync.specs.Placing.{ArePlaced}
 use Rattle.txg_sync.proofs.PlacedParts.{places_as_pages}
 use Rattle.txg_sync.proofs.PlannedLimits.{few_found}
-use Rattle.pool_model.specs.Logs.{LoggedTable, Replays, sync_logged}
+use Rattle.pool_model.specs.Replaying.{LoggedTable, Replays, sync_logged}
 use Rattle.pool_model.proofs.Replays.{sync_replays}
 
 module _ (held : Held) (sound : IsSound held) (contents : List Stored) (slots : List SlotRecord) (kept : LoggedTable)

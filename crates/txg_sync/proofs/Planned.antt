@@ -1,18 +1,20 @@
 -- The parts of a plan are what a group leaves.
 use Rattle.std.proofs.Common.{◌≡◌, ℕ, ◌+◌, true, List, [], ◌∷◌, ◌++◌, length, sym, ap, subst, ◌∙◌, arith}
 use Rattle.std.specs.List.{AllByRecursion}
-use Rattle.ddt_entry.specs.Spelling.{IsKeyLength}
+use Rattle.ddt_entry.specs.Spelling.{Fits, IsKeyLength}
+use Rattle.ddt_entry.specs.declared.entry.Change.TheVariants.{Entry as AnEntry}
 use Rattle.page_tree.specs.Pointers.{null_pointer}
 use Rattle.page_tree.specs.declared.pointer.PagePtr.{PagePtr}
 use Rattle.uber_ring.specs.declared.seal.Seal.{Seal}
 use Rattle.pool_model.specs.Space.{used_sectors}
-use Rattle.pool_model.specs.Table.{TableState, sync_table}
+use Rattle.pool_model.specs.Table.{TableState}
+use Rattle.table_state.specs.Spelling.{FitsSlot}
 use Rattle.table_state.specs.Pools.{Held, slots_after, pool_after}
 use Rattle.table_state.specs.Sealed.{ChainPart, places_in, records_in, seal_of}
 use Rattle.table_state.specs.SlotRecords.{is_slot}
 use Rattle.table_state.specs.Sound.{IsSound, HasKeyLengths}
 use Rattle.table_state.specs.Tables.{IsTableWithin, HaveKeyLengths}
-use Rattle.table_state.specs.declared.slot_record.SlotRecord.{SlotRecord}
+use Rattle.slot_table.specs.declared.slot.SlotRecord.{SlotRecord}
 use Rattle.pool_model.proofs.Lists.{all_from}
 use Rattle.table_state.proofs.SlotLaws.{is_slot-from}
 use Rattle.table_state.proofs.SlotsAfter.{within_after, within_later}
@@ -20,7 +22,7 @@ use Rattle.table_state.proofs.Syncing.{sync_within, sync_lengths, logs_sync_leng
 use Rattle.txg_sync.specs.Placing.{ArePlaced}
 use Rattle.table_state.specs.Closing.{PlainClosed, IsInRange, kept_of}
 use Rattle.txg_sync.specs.Planning.{IsMadeOf, IsPlan}
-use Rattle.pool_model.specs.Logs.{LoggedTable, sync_logged}
+use Rattle.pool_model.specs.Replaying.{LoggedTable, sync_logged}
 
 module _ (held : Held) (closed : PlainClosed) (sound : IsSound held) (range : IsInRange held closed) where
   pub lengths_after : (kept : LoggedTable) → kept ≡ sync_logged closed.log (kept_of held) → HasKeyLengths kept.table
@@ -54,8 +56,9 @@ pub is_plan : (held : Held) (closed : PlainClosed) (slots : List SlotRecord) (ke
     (records_in slots kept) parts → pages ≡ places_in parts
     → ((roots : List PagePtr) → record seal { pointers = roots ++ null_pointer ∷ [] } ≡ seal_of held.tag held.sectors (held.group + 1)
     closed.modes closed.quota kept roots (length pages))
-    → IsMadeOf held closed slots kept pages next → IsPlan held closed next parts seal
-is_plan held closed slots kept parts pages seal next slots_are kept_is placed pages_are seal_is made = record {
+    → IsMadeOf held closed slots kept pages next → AllByRecursion FitsSlot slots → AllByRecursion (λ entry. Fits (AnEntry entry)) kept.table.zap
+    → IsPlan held closed next parts seal
+is_plan held closed slots kept parts pages seal next slots_are kept_is placed pages_are seal_is made slots_fit fit = record {
   is_next = record {
     slots_are = made.slots_are ∙ slots_are;
     table_is = ap (λ (k : LoggedTable). k.table) (made.kept_is ∙ kept_is);
@@ -75,6 +78,8 @@ is_plan held closed slots kept parts pages seal next slots_are kept_is placed pa
     group_is = made.group_is;
     sectors_are = made.sectors_are;
   };
+  slots_fit = subst (λ (s : List SlotRecord). AllByRecursion FitsSlot s) (sym made.slots_are) slots_fit;
+  zap_fits = subst (λ (k : LoggedTable). AllByRecursion (λ entry. Fits (AnEntry entry)) k.table.zap) (sym made.kept_is) fit;
   placed =
       subst (λ (s : List SlotRecord). ArePlaced held.used closed.contents (records_in s (kept_of next)) parts) (sym made.slots_are)
       (subst (λ (k : LoggedTable). ArePlaced held.used closed.contents (records_in slots k) parts) (sym made.kept_is) placed);

@@ -15,7 +15,7 @@ use Rattle.table_state.specs.Tables.{IsTableWithin, unique_in, duplicate_in, tab
 use Rattle.pool_model.proofs.Lists.{all_from, all_filter, fold_keeps, length-filter-le}
 use Rattle.pool_model.proofs.Sorted.{all_put, length-put}
 use Rattle.pool_model.proofs.TablePuts.{entries_put}
-use Rattle.pool_model.specs.Logs.{LoggedTable, Replays}
+use Rattle.pool_model.specs.Replaying.{LoggedTable, Replays}
 use Rattle.table_state.proofs.PagesOf.{listed_fewer}
 
 module _ (sectors group : ℕ) where

@@ -1,26 +1,33 @@
 -- The numbers of a seal that is made for a group: the homes that are counted, and the bytes of the lanes' modes.
-use Rattle.std.proofs.Common.{◌≡◌, ℕ, ◌+◌, ◌^◌, ◌<◌, ◌≤◌, nat_lt, List, [], ◌∷◌, ◌++◌, All, length, map, filter, take, set, get_or, sym, ap, subst, ◌∙◌, arith}
+use Rattle.std.proofs.Common.{◌≡◌, ℕ, ◌+◌, ◌<◌, Bool, true, false, cond, nat_lt, List, [], ◌∷◌, ◌++◌, length, map, filter, take, set, get_or, sum_by, refl, sym, ap, ◌∙◌, arith}
 use Rattle.std.proofs.Math.Seq.{take-length}
 use Rattle.std.proofs.lemmas.List.{map_more, take_more_set}
-use Rattle.std.proofs.lemmas.List.Elements.{All-filter}
+use Rattle.std.proofs.lemmas.List.Sums.{sum_by-cons}
+use Rattle.std.proofs.lemmas.Bool.Decides.{nat_tests}
 use Rattle.ddt_entry.specs.declared.entry.Entry.{Entry}
-use Rattle.pool_model.proofs.Lists.{length-filter-le}
 
--- the entries at hand are those found that are counted
-module _ (found all homes listed : List Entry) (all_is : all ≡ found) (homes_are : homes ≡ filter (λ entry. nat_lt 0 entry.home.count) all)
-    (listed_is : listed ≡ homes) where
-  are_counted : filter (λ entry. nat_lt 0 entry.home.count) found ≡ listed
-  are_counted = sym (listed_is ∙ homes_are ∙ ap (λ (l : List Entry). filter (λ entry. nat_lt 0 entry.home.count) l) all_is)
+-- what isn't counted adds nothing to the sum of the counts
+with_one : (entry : Entry) (counted : List Entry) (b : Bool) → nat_lt 0 entry.home.count ≡ b
+    → entry.home.count + sum_by (λ e. e.home.count) counted ≡ sum_by (λ e. e.home.count) (cond b (entry ∷ counted) counted)
+with_one entry counted true some = sym (sum_by-cons (λ (e : Entry). e.home.count) entry counted)
+with_one entry counted false none = let zero : entry.home.count ≡ 0 = grind (arith, nat_tests) in omega (arith, zero)
 
-  -- there are no more of them
-  pub counted_few : length found ≤ 2 ^ 40 → length listed ≤ 2 ^ 40
-  counted_few few = subst (λ (l : List Entry). length l ≤ 2 ^ 40) are_counted
-      (let fewer = length-filter-le (λ (entry : Entry). nat_lt 0 entry.home.count) found in omega (arith, few, fewer))
+sum_counted : (entries : List Entry)
+    → sum_by (λ entry. entry.home.count) entries ≡ sum_by (λ entry. entry.home.count) (filter (λ entry. nat_lt 0 entry.home.count) entries)
+sum_counted [] = refl
+sum_counted (entry ∷ entries) =
+    sum_by-cons (λ (e : Entry). e.home.count) entry entries
+    ∙ ap (λ n. entry.home.count + n) (sum_counted entries)
+    ∙ with_one entry (filter (λ (e : Entry). nat_lt 0 e.home.count) entries) (nat_lt 0 entry.home.count) refl
 
-  -- and each count is as small
-  pub counted_small : All (λ entry. entry.home.count ≤ 1048576) found → All (λ entry. entry.home.count ≤ 1048576) listed
-  counted_small small = subst (λ (l : List Entry). All (λ entry. entry.home.count ≤ 1048576) l) are_counted
-      (All-filter (λ entry. nat_lt 0 entry.home.count) (λ entry. entry.home.count ≤ 1048576) found small)
+-- so the sum over all entries is that of those that are counted
+pub all_summed : (sum i : ℕ) (entries : List Entry) → sum ≡ sum_by (λ entry. entry.home.count) (take i entries) → i ≡ length entries
+    → sum ≡ sum_by (λ entry. entry.home.count) (filter (λ entry. nat_lt 0 entry.home.count) entries)
+all_summed sum i entries so_far at_end =
+    so_far
+    ∙ ap (λ n. sum_by (λ (entry : Entry). entry.home.count) (take n entries)) at_end
+    ∙ ap (λ (es : List Entry). sum_by (λ entry. entry.home.count) es) (take-length entries)
+    ∙ sum_counted entries
 
 -- bytes that are set from their front: one more is the value of one item more
 pub spelled_more : {X : Type 0} (f : X → ℕ) (items : List X) (bytes : List ℕ) (i : ℕ) (byte : ℕ) (d : X) → i < length items

@@ -4,9 +4,9 @@ use Rattle.std.proofs.Math.Numerals.{one-add}
 use Rattle.std.specs.List.{position_or_len}
 use Rattle.std.proofs.lemmas.Grind.{common_steps}
 use Rattle.std.proofs.lemmas.List.Sums.{prefix_len-le-length}
-use Rattle.table_state.specs.Flat.{stands_before}
-use Rattle.table_state.specs.Pools.{insert_slot}
-use Rattle.table_state.specs.declared.slot_record.SlotRecord.{SlotRecord}
+use Rattle.slot_table.specs.Slots.{stands_before}
+use Rattle.slot_table.specs.Slots.{insert_slot}
+use Rattle.slot_table.specs.declared.slot.SlotRecord.{SlotRecord}
 
 -- a slot goes to the first place whose slot it stands before
 pub insert_slot-insert : (new : SlotRecord) (slots : List SlotRecord)

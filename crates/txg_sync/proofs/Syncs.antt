@@ -15,7 +15,6 @@ use Rattle.pool_model.specs.declared.closed.StoredBlock.{StoredBlock}
 use Rattle.pool_model.specs.Mirrors.{Stored, stored_of}
 use Rattle.pool_model.specs.Pool.{Pool}
 use Rattle.pool_model.specs.Group.{Standing}
-use Rattle.pool_model.specs.Table.{TableState}
 use Rattle.ddt_entry.specs.Spelling.{Fits as ChangeFits}
 use Rattle.ddt_entry.specs.declared.entry.Change.TheVariants as changes
 use Rattle.table_state.specs.Spelling.{FitsSlot}
@@ -24,7 +23,7 @@ use Rattle.table_state.specs.Pools.{Held, slots_after}
 use Rattle.table_state.specs.SealForms.{last_group}
 use Rattle.table_state.specs.Sound.{IsSound}
 use Rattle.table_state.specs.Sealed.{ChainPart, places_in, records_in}
-use Rattle.table_state.specs.declared.slot_record.SlotRecord.{SlotRecord}
+use Rattle.slot_table.specs.declared.slot.SlotRecord.{SlotRecord}
 use Rattle.table_state.proofs.Held.{holds_over}
 use Rattle.table_state.proofs.Stands.{open_wider}
 use Rattle.table_state.specs.Closing.{pages_of, PlainClosed, CanSync, CanSyncOver, IsInRange, records_after, kept_of}
@@ -34,7 +33,7 @@ use Rattle.txg_sync.specs.Writing.{group_places, with_roots, FollowsSeal, IsUnse
 use Rattle.txg_sync.proofs.PlacedParts.{places_as_pages}
 use Rattle.txg_sync.proofs.Outcomes.{holds_before_gate, not_written}
 use Rattle.txg_sync.proofs.Afterwards.{AreSpelt, holds_after, over_after, same_kept}
-use Rattle.pool_model.specs.Logs.{Logs, LoggedTable}
+use Rattle.pool_model.specs.Logs.{Logs}
 
 module _ (held : Held) (closed : PlainClosed) (sound : IsSound held) (next : Held) (parts : List ChainPart) (seal : Seal)
     (plan : IsPlan held closed next parts seal) where
@@ -177,14 +176,13 @@ module _ (seal : Seal) (blocks listed : List StoredBlock) (parts given : List Ch
       → Seals (slot_of seal.group) (map stored_of blocks) parts (with_roots seal parts) old new
   sealed_as_planned old new seals = as_planned (λ contents ps. Seals (slot_of seal.group) contents ps (with_roots seal ps) old new) seals
 
--- slots, a table and its logs at hand that have a spelling
-pub spelt_by : (next : Held) (slots : List SlotRecord) (kept : LoggedTable) → slots ≡ next.slots → kept.table ≡ next.table
-    → kept.logs ≡ next.logs
-    → AllByRecursion FitsSlot slots → AllByRecursion (λ entry. ChangeFits (changes.Entry entry)) kept.table.zap
-    → AllByRecursion ChangeFits kept.logs.active → AllByRecursion ChangeFits kept.logs.flushing → AreSpelt next.slots (kept_of next)
-spelt_by next slots kept same_slots same_table same_logs fit zap active flushing = record {
+-- slots and logs at hand that have a spelling, beside a table whose stored homes have one
+pub spelt_by : (next : Held) (slots : List SlotRecord) (logs : Logs) → slots ≡ next.slots → logs ≡ next.logs
+    → AllByRecursion FitsSlot slots → AllByRecursion (λ entry. ChangeFits (changes.Entry entry)) next.table.zap
+    → AllByRecursion ChangeFits logs.active → AllByRecursion ChangeFits logs.flushing → AreSpelt next.slots (kept_of next)
+spelt_by next slots logs same_slots same_logs fit zap active flushing = record {
   slots_fit = subst (λ (s : List SlotRecord). AllByRecursion FitsSlot s) same_slots fit;
-  zap = subst (λ (t : TableState). AllByRecursion (λ entry. ChangeFits (changes.Entry entry)) t.zap) same_table zap;
+  zap = zap;
   active = subst (λ (l : Logs). AllByRecursion ChangeFits l.active) same_logs active;
   flushing = subst (λ (l : Logs). AllByRecursion ChangeFits l.flushing) same_logs flushing;
 }

@@ -9,7 +9,7 @@ use Rattle.pool_model.specs.Space.{used_sectors}
 use Rattle.pool_model.specs.Table.{TableState}
 use Rattle.table_state.specs.Pools.{pool_after}
 use Rattle.table_state.specs.Sealed.{ChainPart, places_in}
-use Rattle.table_state.specs.declared.slot_record.SlotRecord.{SlotRecord}
+use Rattle.slot_table.specs.declared.slot.SlotRecord.{SlotRecord}
 use Rattle.table_state.specs.Closing.{block_places, pages_of}
 
 -- these are the sectors that a pool with these pages, slots and table uses, whatever its settings

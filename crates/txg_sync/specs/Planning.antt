@@ -1,16 +1,21 @@
 -- What a sync is going to write, before anything is written: the pool after the group, its chains with their places, and the seal.
 use Rattle.std.specs.Prelude.{◌≡◌, ℕ, ◌+◌, List, [], ◌∷◌, ◌++◌, length}
+use Rattle.std.specs.List.{AllByRecursion}
+use Rattle.ddt_entry.specs.Spelling.{Fits}
+use Rattle.ddt_entry.specs.declared.entry.Change.TheVariants.{Entry as AnEntry}
 use Rattle.page_tree.specs.Pointers.{null_pointer}
 use Rattle.page_tree.specs.declared.pointer.PagePtr.{PagePtr}
 use Rattle.pool_model.specs.Space.{used_sectors}
-use Rattle.pool_model.specs.Table.{TableState, sync_table}
+use Rattle.pool_model.specs.Table.{sync_table}
 use Rattle.uber_ring.specs.declared.seal.Seal.{Seal}
-use Rattle.table_state.specs.declared.slot_record.SlotRecord.{SlotRecord}
+use Rattle.slot_table.specs.declared.slot.SlotRecord.{SlotRecord}
 use Rattle.txg_sync.specs.Placing.{ArePlaced, AreUsed}
+use Rattle.table_state.specs.Spelling.{FitsSlot}
 use Rattle.table_state.specs.Closing.{PlainClosed, kept_of}
 use Rattle.table_state.specs.Pools.{Held, slots_after, pool_after}
 use Rattle.table_state.specs.Sealed.{ChainPart, places_in, records_in, seal_of}
-use Rattle.pool_model.specs.Logs.{LoggedTable, logs_after}
+use Rattle.pool_model.specs.Logs.{logs_after}
+use Rattle.pool_model.specs.Replaying.{LoggedTable}
 
 -- the pool in memory after the group, whose image has these pages
 pub record IsNext (held : Held) (closed : PlainClosed) (pages : List ℕ) (next : Held) : Type 0 where
@@ -39,9 +44,12 @@ pub record IsMadeOf (held : Held) (closed : PlainClosed) (slots : List SlotRecor
   pub group_is : next.group ≡ held.group + 1
   pub sectors_are : next.sectors ≡ held.sectors
 
--- a plan: the pool after the group, its chains, and the seal, whose roots are known once the pages are written
+-- a plan: the pool after the group, whose slots and stored homes fit their records, its chains, and the seal, whose roots are known once the
+-- pages are written
 pub record IsPlan (held : Held) (closed : PlainClosed) (next : Held) (parts : List ChainPart) (seal : Seal) : Type 0 where
   pub is_next : IsNext held closed (places_in parts) next
+  pub slots_fit : AllByRecursion FitsSlot next.slots
+  pub zap_fits : AllByRecursion (λ entry. Fits (AnEntry entry)) next.table.zap
   pub placed : ArePlaced held.used closed.contents (records_in next.slots (kept_of next)) parts
   pub seal_is : (roots : List PagePtr)
       → record seal { pointers = roots ++ null_pointer ∷ [] } ≡ seal_of held.tag held.sectors (held.group + 1) closed.modes closed.quota

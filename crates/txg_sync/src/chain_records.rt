@@ -1,19 +1,24 @@
-ghost use Rattle.std.specs.Prelude.{◌≡◌, All, IfOk, map};
+ghost use Rattle.std.specs.Prelude.{◌≡◌, All, IfOk, OnOk, map};
+ghost use Rattle.std.specs.List.{AllByRecursion};
 ghost use Rattle.ddt_entry.specs.Changes.{key_in};
-ghost use Rattle.ddt_entry.specs.Spelling.{record_bytes, IsKeyLength};
+ghost use Rattle.ddt_entry.specs.Spelling.{record_bytes, Fits, IsKeyLength};
+ghost use Rattle.ddt_entry.specs.declared.entry.Change.TheVariants.{Entry as AnEntry};
 ghost use Rattle.table_state.specs.Sealed.{entry_bytes, records_in};
 ghost use Rattle.table_state.specs.Spelling.{slot_bytes};
 ghost use Rattle.table_state.specs.Tables.{unique_in, duplicate_in};
 ghost use Rattle.plain_table.specs.Logged.{logged_of};
 
+use crate::fits::entries_fit;
 use ddt_entry::{Change, Entry, RECORD_BYTES, write_change};
 use page_tree::RecordList;
 use plain_table::LoggedPlainTable;
+use slot_table::SlotRecord;
 use std::alloc::{AllocError, Global};
-use table_state::{SlotRecord, write_slot};
+use table_state::write_slot;
 
 /// The records of the five chains of a group: of its slots, of the unique and the duplicate entries of the
-/// stored table, of all changes of the active and of the flushing log. The error is want of memory.
+/// stored table, of all changes of the active and of the flushing log. The stored homes are listed for it, which
+/// shows that they fit. The error is want of memory.
 pub fn records_of(
     alloc: Global,
     slots: &[SlotRecord],
@@ -22,12 +27,15 @@ pub fn records_of(
     requires zap { All (λ entry. IsKeyLength entry.key.len) kept.now.table.zap }
     requires active { All (λ change. IsKeyLength (key_in change).len) kept.now.logs.active }
     requires flushing { All (λ change. IsKeyLength (key_in change).len) kept.now.logs.flushing }
-    ensures { IfOk result (λ lists. map (λ list. list.items) lists.items ≡ records_in slots.now (logged_of kept.now)) }
+    ensures records { IfOk result (λ lists. map (λ list. list.items) lists.items ≡ records_in slots.now (logged_of kept.now)) }
+    ensures fit { OnOk result (AllByRecursion (λ entry. Fits (AnEntry entry)) kept.now.table.zap) }
 {
     let table = &kept.table;
     let logs = &kept.logs;
-    let unique = unique_in(Vec::from_slice(alloc, table.zap.as_slice())?);
-    let duplicate = duplicate_in(Vec::from_slice(alloc, table.zap.as_slice())?);
+    let stored = table.zap.entries(alloc)?;
+    entries_fit(stored.as_slice());
+    let duplicate = duplicate_in(Vec::from_slice(alloc, stored.as_slice())?);
+    let unique = unique_in(stored);
     let mut lists = Vec::new(alloc);
     lists.push(slot_records(alloc, slots)?)?;
     lists.push(entry_records(alloc, unique.as_slice())?)?;

@@ -19,8 +19,9 @@ use grant_book::SectorSet;
 use page_tree::SectorList;
 use plain_table::{KeptLogs, PlainTable};
 use pool_model::{Mode, SyncFault};
+use slot_table::SlotMap;
 use std::alloc::{AllocError, Global};
-use table_state::{Pool, SlotList};
+use table_state::Pool;
 
 /// The empty pool of group 1. The error is want of memory.
 fn new_pool(alloc: Global, tag: u8, sectors: u64) -> Result<Pool, AllocError>
@@ -28,7 +29,7 @@ fn new_pool(alloc: Global, tag: u8, sectors: u64) -> Result<Pool, AllocError>
     ensures { IfOk result (λ pool. pool ≡ new_held tag sectors) }
 {
     Ok(Pool {
-        slots: SlotList::new(alloc),
+        slots: SlotMap::new(alloc),
         table: PlainTable::new(alloc),
         logs: KeptLogs::new(alloc),
         pages: SectorList::new(alloc),

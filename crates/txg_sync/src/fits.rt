@@ -1,4 +1,4 @@
-//! That slots and changes at hand fit their ranges, by the types of their fields. The functions do nothing:
+//! That slots, entries and changes at hand fit their ranges, by the types of their fields. The functions do nothing:
 //! whoever needs the law of a list at hand calls its function.
 
 ghost use Rattle.std.specs.List.{AllByRecursion};
@@ -7,8 +7,9 @@ ghost use Rattle.ddt_entry.specs.declared.entry.Change.TheVariants.{Entry as AnE
 ghost use Rattle.table_state.specs.Spelling.{FitsSlot};
 
 use ddt_entry::{Change, Entry, Home};
-use plain_table::{KeptLogs, PlainTable};
-use table_state::{SlotRecord, key_fits, slot_fits};
+use plain_table::KeptLogs;
+use slot_table::SlotRecord;
+use table_state::{key_fits, slot_fits};
 
 /// Slots that code has in hand fit.
 pub fn slots_fit(slots: &[SlotRecord])
@@ -17,13 +18,6 @@ pub fn slots_fit(slots: &[SlotRecord])
     'slots: for held in slots {
         slot_fits(*held);
     }
-}
-
-/// The stored homes of a table that code has in hand fit.
-pub fn table_fits(table: &PlainTable)
-    ensures { AllByRecursion (λ entry. Fits (AnEntry entry)) table.now.zap }
-{
-    entries_fit(table.zap.as_slice());
 }
 
 /// The changes of logs that code has in hand fit.
@@ -36,7 +30,7 @@ pub fn logs_fit(logs: &KeptLogs)
 }
 
 /// Entries that code has in hand fit.
-fn entries_fit(entries: &[Entry])
+pub fn entries_fit(entries: &[Entry])
     ensures { AllByRecursion (λ entry. Fits (AnEntry entry)) entries.now }
 {
     'entries: for entry in entries {

@@ -1,4 +1,4 @@
-ghost use Rattle.std.specs.Prelude.{◌≡◌, ◌≤◌, ◌^◌, ◌∷◌, [], ◌++◌, List, All, IfOk, length, map, filter, replicate, nat_lt, sum_by};
+ghost use Rattle.std.specs.Prelude.{◌≡◌, ◌≤◌, ◌^◌, ◌∷◌, [], ◌++◌, List, All, length, map, filter, replicate, nat_lt, sum_by};
 ghost use Rattle.page_tree.specs.Pointers.{null_pointer};
 ghost use Rattle.page_tree.specs.declared.pointer.PagePtr.{PagePtr};
 ghost use Rattle.pool_model.specs.Table.{entries_found};
@@ -10,32 +10,31 @@ use ddt_entry::{Entry, Key};
 use page_tree::PagePtr;
 use plain_table::LoggedPlainTable;
 use pool_model::Mode;
-use std::alloc::{AllocError, Global};
 use table_state::{IMAGE_VERSION, byte_of};
 use uber_ring::Seal;
 
-/// The seal of a group, before its roots are known: the settings, the state of the table, null pointers, and the
-/// sums of the homes that are counted. The error is want of memory.
+/// The seal of a group whose table finds these homes, before its roots are known: the settings, the state of the
+/// table, null pointers, and the sums of the homes that are counted. Takes no memory.
 pub fn seal_of(
-    alloc: Global,
     tag: u8,
     sectors: u64,
     group: u64,
     modes: &[Mode; 16],
     quota: Option<u64>,
     kept: &LoggedPlainTable,
+    found: &[Entry],
     pages: u64,
-) -> Result<Seal, AllocError>
+) -> Seal
+    requires found { found.now ≡ entries_found kept.now.table }
     requires few { length (entries_found kept.now.table) ≤ 2 ^ 40 }
     requires counts { All (λ entry. entry.home.count ≤ 1048576) (entries_found kept.now.table) }
-    ensures fields { IfOk result (λ seal. (roots : List PagePtr)
-        → record seal { pointers = roots ++ null_pointer ∷ [] } ≡ seal_of tag sectors group modes.now quota (logged_of kept.now) roots pages) }
-    ensures pointers { IfOk result (λ seal. seal.pointers ≡ replicate 6 null_pointer) }
+    ensures fields { (roots : List PagePtr)
+        → record result { pointers = roots ++ null_pointer ∷ [] } ≡ seal_of tag sectors group modes.now quota (logged_of kept.now) roots pages }
+    ensures pointers { result.pointers ≡ replicate 6 null_pointer }
 {
     let table = &kept.table;
     let logs = &kept.logs;
-    let homes = counted(table.entries_found(alloc)?);
-    Ok(Seal {
+    Seal {
         version: IMAGE_VERSION,
         tag: tag as u32,
         group,
@@ -50,25 +49,31 @@ pub fn seal_of(
         checkpoint_len: checkpoint_len(table.checkpoint),
         checkpoint_digest: checkpoint_digest(table.checkpoint),
         pointers: [PagePtr::NULL; 6],
-        homes: homes.len() as u64,
-        counts: sum_of_counts(homes.as_slice()),
+        homes: counted_in(found),
+        counts: sum_of_counts(found),
         pages,
-    })
+    }
 }
 
-/// The entries whose count is above 0.
-fn counted(mut entries: Vec<Entry>) -> Vec<Entry>
-    ensures { result.items ≡ filter (λ entry. nat_lt 0 entry.home.count) entries.items }
+/// How many of a few entries have a count above 0.
+fn counted_in(entries: &[Entry]) -> u64
+    requires few { length entries.now ≤ 2 ^ 40 }
+    ensures { result ≡ length (filter (λ entry. nat_lt 0 entry.home.count) entries.now) }
 {
-    entries.retain(|entry| entry.home.count > 0);
-    entries
+    let mut counted = 0;
+    'entries: for entry in entries {
+        if entry.home.count > 0 {
+            counted += 1;
+        }
+    }
+    counted
 }
 
-/// The sum of the counts of a few entries, each of which is small.
+/// The sum of the counts of those of a few entries that are counted. Each count is small; one of 0 adds nothing.
 fn sum_of_counts(entries: &[Entry]) -> u64
     requires few { length entries.now ≤ 2 ^ 40 }
     requires counts { All (λ entry. entry.home.count ≤ 1048576) entries.now }
-    ensures { result ≡ sum_by (λ entry. entry.home.count) entries.now }
+    ensures { result ≡ sum_by (λ entry. entry.home.count) (filter (λ entry. nat_lt 0 entry.home.count) entries.now) }
 {
     let mut sum = 0;
     'entries: for entry in entries {

@@ -36,7 +36,7 @@ pub use chain_records::records_of;
 pub use creating::create;
 pub use fault::SealFault;
 pub use fill::fill_slot;
-pub use fits::{logs_fit, slots_fit, table_fits};
+pub use fits::{entries_fit, logs_fit, slots_fit};
 pub use group::{fill_group, seal_group};
 pub use group_seal::seal_of;
 pub use next_slots::slots_after;

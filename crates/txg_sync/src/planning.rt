@@ -1,6 +1,7 @@
-ghost use Rattle.std.specs.Prelude.{◌≡◌, ◌≤◌, ◌<◌, ◌+◌, ◌^◌, ◌++◌, ◌∷◌, [], ℕ, true, List, length, slice_index_or, IfOk, IfNone, IfSome};
+ghost use Rattle.std.specs.Prelude.{◌≡◌, ◌≤◌, ◌<◌, ◌+◌, ◌^◌, ◌++◌, ◌∷◌, [], ℕ, true, List, length, slice_index_or, IfOk, IfNone, IfSome, OnOk};
 ghost use Rattle.std.specs.List.{AllByRecursion};
-ghost use Rattle.ddt_entry.specs.Spelling.{IsKeyLength};
+ghost use Rattle.ddt_entry.specs.Spelling.{Fits, IsKeyLength};
+ghost use Rattle.ddt_entry.specs.declared.entry.Change.TheVariants.{Entry as AnEntry};
 ghost use Rattle.page_tree.specs.Pointers.{null_pointer};
 ghost use Rattle.page_tree.specs.declared.pointer.PagePtr.{PagePtr};
 ghost use Rattle.pool_model.specs.Table.{entries_found};
@@ -12,20 +13,24 @@ ghost use Rattle.table_state.specs.Sound.{IsSound, HasKeyLengths};
 ghost use Rattle.table_state.specs.Closing.{closed_of, IsInRange, records_after, kept_of};
 ghost use Rattle.plain_table.specs.Logged.{logged_of};
 ghost use Rattle.txg_sync.specs.Planning.{IsMadeOf, IsPlan};
-ghost use Rattle.txg_sync.specs.Placing.{ArePlaced, LacksRoom};
-ghost use Rattle.pool_model.specs.Logs.{sync_logged};
+ghost use Rattle.txg_sync.specs.Placing.{ArePlaced, AreUsed, LacksRoom};
+ghost use Rattle.pool_model.specs.Replaying.{sync_logged};
 
 use crate::chain_records::records_of;
+use crate::fits::slots_fit;
 use crate::group_seal::seal_of;
 use crate::next_slots::slots_after;
 use crate::part::ChainPages;
 use crate::places::place_chains;
 use crate::used::used_after;
+use ddt_entry::Entry;
+use grant_book::SectorSet;
 use page_tree::SectorList;
 use plain_table::{LoggedPlainTable, sync_logged};
 use pool_model::Closed;
+use slot_table::{SlotMap, SlotRecord};
 use std::alloc::{AllocError, Global};
-use table_state::{Pool, SlotList, SlotRecord};
+use table_state::Pool;
 use uber_ring::Seal;
 
 /// What a sync is going to write.
@@ -57,35 +62,36 @@ fn kept_after(alloc: Global, pool: &Pool, closed: &Closed) -> Result<LoggedPlain
     sync_logged(alloc, &pool.table, &pool.logs, closed.changes.as_slice())
 }
 
-/// The seal of the group, of whose table few homes are found. The error is want of memory.
+/// The seal of the group, whose table finds these few homes. Takes no memory.
 fn seal_after(
-    alloc: Global,
     pool: &Pool,
     closed: &Closed,
     kept: &LoggedPlainTable,
+    found: &[Entry],
     pages: u64,
-) -> Result<Seal, AllocError>
+) -> Seal
     requires last { pool.now.group + 1 ≤ last_group }
     requires within { IsTableWithin pool.now.sectors (pool.now.group + 1) kept.now.table }
+    requires found { found.now ≡ entries_found kept.now.table }
     requires few { length (entries_found kept.now.table) ≤ 2 ^ 40 }
-    ensures { IfOk result (λ seal. (roots : List PagePtr) → record seal { pointers = roots ++ null_pointer ∷ [] }
-        ≡ seal_of pool.now.tag pool.now.sectors (pool.now.group + 1) closed.now.modes closed.now.quota (logged_of kept.now) roots pages) }
+    ensures { (roots : List PagePtr) → record result { pointers = roots ++ null_pointer ∷ [] }
+        ≡ seal_of pool.now.tag pool.now.sectors (pool.now.group + 1) closed.now.modes closed.now.quota (logged_of kept.now) roots pages }
 {
     seal_of(
-        alloc,
         pool.tag,
         pool.sectors,
         pool.sealed + 1,
         &closed.modes,
         closed.quota,
         kept,
+        found,
         pages,
     )
 }
 
 /// The slots after the group. The error is want of memory.
-fn slots_of(alloc: Global, pool: &Pool, closed: &Closed) -> Result<SlotList, AllocError>
-    ensures { IfOk result (λ slots. slots.items ≡ slots_after closed.now.slots.items pool.now.slots) }
+fn slots_of(alloc: Global, pool: &Pool, closed: &Closed) -> Result<SlotMap, AllocError>
+    ensures { IfOk result (λ slots. slots ≡ slots_after closed.now.slots.items pool.now.slots) }
 {
     slots_after(alloc, &pool.slots, closed.slots.as_slice())
 }
@@ -106,34 +112,27 @@ fn chains_of(
         ArePlaced pool.now.used (closed_of closed.now).contents (records_in slots.now (logged_of kept.now)) parts.items)) }
     ensures room { IfOk result (λ found. IfNone found
         (LacksRoom pool.now.used (closed_of closed.now).contents (records_in slots.now (logged_of kept.now)))) }
+    ensures fit { OnOk result (AllByRecursion (λ entry. Fits (AnEntry entry)) kept.now.table.zap) }
 {
     let lists = records_of(alloc, slots, kept)?;
     place_chains(alloc, &pool.used, closed.contents.as_slice(), lists)
 }
 
-/// The pool after the group, of these slots, this table and its logs, and pages in these sectors. The error is want of memory.
+/// The pool after the group, of these slots, this table and its logs, and pages in these sectors, where these sectors
+/// are used.
 fn next_of(
-    alloc: Global,
     pool: &Pool,
     closed: &Closed,
-    slots: SlotList,
+    slots: SlotMap,
     kept: LoggedPlainTable,
     pages: SectorList,
-) -> Result<Pool, AllocError>
-    requires enough { 32 ≤ pool.now.sectors }
+    used: SectorSet,
+) -> Pool
     requires last { pool.now.group + 1 ≤ last_group }
-    requires slots { AllByRecursion (λ slot. IsKeyLength slot.pointer.key.len) slots.items }
-    requires lengths { HasKeyLengths kept.table }
-    ensures { IfOk result (λ next. IsMadeOf pool.now (closed_of closed.now) slots.items (logged_of kept) pages.items next) }
+    requires used { AreUsed pool.now.sectors pages.items slots kept.table used }
+    ensures { IsMadeOf pool.now (closed_of closed.now) slots (logged_of kept) pages.items result }
 {
-    let used = used_after(
-        alloc,
-        pool.sectors,
-        pages.as_slice(),
-        slots.as_slice(),
-        &kept.table,
-    )?;
-    Ok(Pool {
+    Pool {
         slots,
         table: kept.table,
         logs: kept.logs,
@@ -144,7 +143,7 @@ fn next_of(
         tag: pool.tag,
         sealed: pool.sealed + 1,
         sectors: pool.sectors,
-    })
+    }
 }
 
 /// Plans the sync of a group: takes all memory and chooses all places. `None` where fewer sectors are free
@@ -159,12 +158,22 @@ pub fn plan_group(alloc: Global, pool: &Pool, closed: &Closed) -> Result<Option<
         (LacksRoom pool.now.used (closed_of closed.now).contents (records_after pool.now (closed_of closed.now)))) }
 {
     let slots = slots_of(alloc, pool, closed)?;
+    let listed = slots.slots(alloc)?;
+    slots_fit(listed.as_slice());
     let kept = kept_after(alloc, pool, closed)?;
-    let Some(parts) = chains_of(alloc, pool, closed, slots.as_slice(), &kept)? else {
+    let Some(parts) = chains_of(alloc, pool, closed, listed.as_slice(), &kept)? else {
         return Ok(None);
     };
     let pages = pages_of(alloc, parts.as_slice())?;
-    let seal = seal_after(alloc, pool, closed, &kept, pages.len())?;
-    let next = next_of(alloc, pool, closed, slots, kept, pages)?;
+    let found = kept.table.entries_found(alloc)?;
+    let seal = seal_after(pool, closed, &kept, found.as_slice(), pages.len());
+    let used = used_after(
+        alloc,
+        pool.sectors,
+        pages.as_slice(),
+        listed.as_slice(),
+        found.as_slice(),
+    )?;
+    let next = next_of(pool, closed, slots, kept, pages, used);
     Ok(Some(Plan { next, parts, seal }))
 }

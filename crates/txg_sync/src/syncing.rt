@@ -14,7 +14,7 @@ ghost use Rattle.txg_sync.specs.Planning.{IsNext, IsPlan};
 ghost use Rattle.txg_sync.specs.SyncFaults.{sync_fault_of};
 
 use crate::fault::SealFault;
-use crate::fits::{logs_fit, slots_fit, table_fits};
+use crate::fits::logs_fit;
 use crate::group::seal_group;
 use crate::planning::{Plan, plan_group};
 use disk_model::{Disk, crash_laws};
@@ -122,8 +122,6 @@ fn write_plan<D: Disk>(
 {
     let _sectors = disk.sectors();
     let Plan { next, parts, seal } = planned;
-    slots_fit(next.slots.as_slice());
-    table_fits(&next.table);
     logs_fit(&next.logs);
     let sealed = seal_group(disk, &seal, closed.contents.as_slice(), parts.as_slice());
     if let Err(fault) = sealed {

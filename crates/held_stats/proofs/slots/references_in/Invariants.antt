@@ -1,9 +1,8 @@
 use Rattle.std.proofs.Common.{◌≡◌, map, take}
 use Rattle.held_stats.specs.Slots.{reference_in}
-use Rattle.pool_model.specs.Table.{IsTable}
 use Rattle.held_stats.proofs.slots.references_in.Given as goal
 
 abbrev pub invariant-slots : goal.invariant-slots
 invariant-slots l =
-    (IsTable l.table → l.references.items ≡ map (reference_in l.table) (take l.slot-index l.slots))
+    (l.references.items ≡ map (reference_in l.table) (take l.slot-index l.slots))
     × (map (λ reference. reference.key) l.references.items ≡ map (λ slot. slot.pointer.key) (take l.slot-index l.slots))

@@ -11,10 +11,10 @@ pub returns : goal.returns
 returns c all key home there =
     found_counts c.args.most key c.args.table.now
     (subst (AllByRecursion (λ (e : Entry). e.home.count ≤ c.args.most))
-    (c.as_slice.ensures.value ∙ ap (λ (t : TableState). t.zap) c.table.view_is)
+    (c.as_slice.ensures.value ∙ c.in_ok-stored.ensures ∙ ap (λ (t : TableState). t.zap) c.table.view_is)
     (c.entries_count.ensures c.if-not-entries_count.false))
-    (subst (AllByRecursion (LeavesAtMost c.args.most)) (c.as_slice-2.ensures.value ∙ ap (λ (t : TableState). t.flush) c.table.view_is)
+    (subst (AllByRecursion (LeavesAtMost c.args.most)) (c.as_slice-2.ensures.value ∙ c.in_ok-flushing.ensures ∙ ap (λ (t : TableState). t.flush) c.table.view_is)
     (c.changes_count.ensures c.if-not-changes_count.false))
-    (subst (AllByRecursion (LeavesAtMost c.args.most)) (c.as_slice-3.ensures.value ∙ ap (λ (t : TableState). t.active) c.table.view_is)
+    (subst (AllByRecursion (LeavesAtMost c.args.most)) (c.as_slice-3.ensures.value ∙ c.in_ok-active.ensures ∙ ap (λ (t : TableState). t.active) c.table.view_is)
     (c.changes_count-2.ensures all))
     home there

@@ -1,4 +1,4 @@
--- A table of parts that hold together is sorted and within its ranges.
+-- A table of parts that hold together is theirs, sorted and within its ranges.
 use Rattle.table_state.proofs.TableBack.{is_table_in, table_in_within}
 use Rattle.pool_import.proofs.Making.{made_of}
 use Rattle.pool_import.proofs.made.pool_of.Goals as goal
@@ -9,7 +9,16 @@ judge-requires-clause-sorted c = is_table_in c.args.seal.now c.args.flat (c.hold
 pub judge-requires-clause-within : goal.judge-requires-clause-within
 judge-requires-clause-within c = table_in_within c.args.seal.now c.args.flat (c.hold_together.ensures.0 c.if-not-hold_together.false)
 
+pub judge-requires-clause-table : goal.judge-requires-clause-table
+judge-requires-clause-table c = c.in_ok-table.ensures (c.hold_together.ensures.0 c.if-not-hold_together.false).unique_rising
+
+pub assembled-requires-clause-slots : goal.assembled-requires-clause-slots
+assembled-requires-clause-slots c = (c.hold_together.ensures.0 c.if-not-hold_together.false).slots_rising
+
+pub assembled-requires-clause-table : goal.assembled-requires-clause-table
+assembled-requires-clause-table c = c.in_ok-table.ensures (c.hold_together.ensures.0 c.if-not-hold_together.false).unique_rising
+
 pub returns-clause-made : goal.returns-clause-made
 returns-clause-made c =
-    made_of c.args.tag c.args.seal.now c.args.flat c.assembled.result c.in-Some.used _ c.in-Some.is
-    (c.hold_together.ensures.0 c.if-not-hold_together.false) c.in_ok-used.ensures.whole c.assembled.ensures
+    made_of c.args.tag c.args.seal.now c.args.flat c.in_ok-assembled.field-0 c.in-Some.used _ c.in-Some.is
+    (c.hold_together.ensures.0 c.if-not-hold_together.false) c.in_ok-used.ensures.whole c.in_ok-assembled.ensures

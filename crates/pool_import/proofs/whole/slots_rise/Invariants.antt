@@ -1,5 +1,5 @@
 use Rattle.std.proofs.Common.{◌≡◌, None, drop}
-use Rattle.table_state.specs.Flat.{stands_before}
+use Rattle.slot_table.specs.Slots.{stands_before}
 use Rattle.pool_import.specs.Together.{rises}
 use Rattle.pool_import.proofs.whole.slots_rise.Given as goal
 

@@ -1,6 +1,6 @@
-use Rattle.std.proofs.Common.{◌≡◌, drop, fold}
-use Rattle.table_state.specs.Pools.{set_slot}
+use Rattle.std.proofs.Common.{◌≡◌, take, fold}
+use Rattle.slot_table.specs.Slots.{set_slot}
 use Rattle.txg_sync.proofs.next_slots.slots_after.Given as goal
 
 abbrev pub invariant-changes : goal.invariant-changes
-invariant-changes l = fold set_slot l.after.items (drop l.change-index l.changes) ≡ fold set_slot l.initial.after.items l.changes
+invariant-changes l = l.after ≡ fold set_slot l.slots (take l.change-index l.changes)

@@ -27,23 +27,23 @@ seal_group-sealed-requires-clause-version g c κs outlives =
 pub seal_group-sealed-requires-clause-behind : goal.seal_group-sealed-requires-clause-behind
 seal_group-sealed-requires-clause-behind g c κs outlives =
     subst (λ (cs : List StoredBlock). (k : ℕ) (d : StoredBlock) → k < length cs → 32 ≤ (slice_index_or cs k d).place)
-    (sym c.as_slice-2.ensures) (stored_at (λ s. 32 ≤ s.place) c.args.closed.now.contents.items c.requires.range.behind)
+    (sym c.as_slice.ensures) (stored_at (λ s. 32 ≤ s.place) c.args.closed.now.contents.items c.requires.range.behind)
 
 pub seal_group-sealed-requires-clause-within : goal.seal_group-sealed-requires-clause-within
 seal_group-sealed-requires-clause-within g c κs outlives =
     subst (λ (cs : List StoredBlock). (k : ℕ) (d : StoredBlock) → k < length cs → (slice_index_or cs k d).place <
-    (g.D.Disk.state c.args.disk.now).sectors) (sym c.as_slice-2.ensures)
+    (g.D.Disk.state c.args.disk.now).sectors) (sym c.as_slice.ensures)
     (λ k d inside. omega
     (arith, c.requires.on_disk, stored_at (λ s. s.place < c.args.pool.now.sectors) c.args.closed.now.contents.items c.requires.range.on_disk k d inside))
 
 pub seal_group-sealed-requires-clause-lengths : goal.seal_group-sealed-requires-clause-lengths
 seal_group-sealed-requires-clause-lengths g c κs outlives =
     subst (λ (cs : List StoredBlock). (k : ℕ) (d : StoredBlock) → k < length cs → length (slice_index_or cs k d).block.items ≤ 4096)
-    (sym c.as_slice-2.ensures) (stored_at (λ s. length s.bytes ≤ 4096) c.args.closed.now.contents.items c.requires.range.blocks)
+    (sym c.as_slice.ensures) (stored_at (λ s. length s.bytes ≤ 4096) c.args.closed.now.contents.items c.requires.range.blocks)
 
 pub seal_group-sealed-requires-clause-places : goal.seal_group-sealed-requires-clause-places
 seal_group-sealed-requires-clause-places g c κs outlives =
-    subst (λ (ps : List ChainPart). AreOpen (g.D.Disk.state c.args.disk.now).sectors [] (places_in ps)) (sym c.as_slice-3.ensures.value)
+    subst (λ (ps : List ChainPart). AreOpen (g.D.Disk.state c.args.disk.now).sectors [] (places_in ps)) (sym c.as_slice-2.ensures.value)
     (open_on_disk c.args.pool.now (closed_of c.args.closed.now) c.requires.sound c.args.planned.next c.args.planned.parts.items
     c.args.planned.seal c.requires.planned (g.D.Disk.state c.args.disk.now).sectors c.requires.on_disk)
 
@@ -53,14 +53,12 @@ returns-in-Err-clause-any_moment g c image s told pending over =
     let count : c.sectors-sectors.result ≡ sectors = c.sectors-sectors.ensures.count in
     let small : sectors < 2 ^ 64 = subst (λ n. n < 2 ^ 64) count c.sectors-sectors.type_inv in
     let tells = subst (λ n. TellsImage n (g.D.Disk.state c.args.disk.now).seen) count c.sectors-sectors.ensures.told in
-    let spelt = spelt_by c.args.planned.next c.as_slice.result.now (record { table = c.next.inside.table; logs = c.next.inside.logs })
-    (c.as_slice.ensures ∙ ap (λ (h : Held). h.slots) c.next.view_is) (ap (λ (h : Held). h.table) c.next.view_is)
-    (ap (λ (h : Held). h.logs) c.next.view_is)
-    c.slots_fit.ensures c.table_fits.ensures c.logs_fit.ensures.active c.logs_fit.ensures.flushing in
+    let spelt = spelt_by c.args.planned.next c.args.planned.next.slots c.next.inside.logs refl (ap (λ (h : Held). h.logs) c.next.view_is)
+    c.requires.planned.slots_fit c.requires.planned.zap_fits c.logs_fit.ensures.active c.logs_fit.ensures.flushing in
     let is_image = subst (λ (o : Option Image). TellsImage sectors o) told tells in
     let can = subst (λ (o : Option Image). CanSyncOver o c.args.pool.now (closed_of c.args.closed.now)) told c.requires.over in
-    let run = may_be_as_planned c.args.planned.seal c.args.closed.now.contents.items c.as_slice-2.result.now c.args.planned.parts.items
-    c.as_slice-3.result.now c.as_slice-2.ensures c.as_slice-3.ensures.value image
+    let run = may_be_as_planned c.args.planned.seal c.args.closed.now.contents.items c.as_slice.result.now c.args.planned.parts.items
+    c.as_slice-2.result.now c.as_slice.ensures c.as_slice-2.ensures.value image
     (c.seal_group-sealed.ensures.any_moment image told pending) in (
       c.args.planned.next.pages,
       pages_after c.args.pool.now (closed_of c.args.closed.now) c.args.planned.next c.args.planned.parts.items c.args.planned.seal
@@ -78,8 +76,8 @@ returns-in-Err-clause-before_the_gate g c image s told pending over fault =
     while_filling c.args.pool.now (closed_of c.args.closed.now) c.requires.sound c.args.planned.next c.args.planned.parts.items
     c.args.planned.seal
     c.requires.planned image can s over
-    (unsealed_as_planned c.args.planned.seal c.args.closed.now.contents.items c.as_slice-2.result.now c.args.planned.parts.items
-    c.as_slice-3.result.now c.as_slice-2.ensures c.as_slice-3.ensures.value image
+    (unsealed_as_planned c.args.planned.seal c.args.closed.now.contents.items c.as_slice.result.now c.args.planned.parts.items
+    c.as_slice-2.result.now c.as_slice.ensures c.as_slice-2.ensures.value image
     (c.seal_group-sealed.ensures.before_the_gate image told pending (search rules)))
 
 pub returns-in-Err-clause-at_the_gate : goal.returns-in-Err-clause-at_the_gate
@@ -88,12 +86,10 @@ returns-in-Err-clause-at_the_gate g c fault =
     let count : c.sectors-sectors.result ≡ sectors = c.sectors-sectors.ensures.count in
     let small : sectors < 2 ^ 64 = subst (λ n. n < 2 ^ 64) count c.sectors-sectors.type_inv in
     let tells = subst (λ n. TellsImage n (g.D.Disk.state c.args.disk.now).seen) count c.sectors-sectors.ensures.told in
-    let spelt = spelt_by c.args.planned.next c.as_slice.result.now (record { table = c.next.inside.table; logs = c.next.inside.logs })
-    (c.as_slice.ensures ∙ ap (λ (h : Held). h.slots) c.next.view_is) (ap (λ (h : Held). h.table) c.next.view_is)
-    (ap (λ (h : Held). h.logs) c.next.view_is)
-    c.slots_fit.ensures c.table_fits.ensures c.logs_fit.ensures.active c.logs_fit.ensures.flushing in
-    let left = gate_as_planned c.args.planned.seal c.args.closed.now.contents.items c.as_slice-2.result.now c.args.planned.parts.items
-    c.as_slice-3.result.now c.as_slice-2.ensures c.as_slice-3.ensures.value
+    let spelt = spelt_by c.args.planned.next c.args.planned.next.slots c.next.inside.logs refl (ap (λ (h : Held). h.logs) c.next.view_is)
+    c.requires.planned.slots_fit c.requires.planned.zap_fits c.logs_fit.ensures.active c.logs_fit.ensures.flushing in
+    let left = gate_as_planned c.args.planned.seal c.args.closed.now.contents.items c.as_slice.result.now c.args.planned.parts.items
+    c.as_slice-2.result.now c.as_slice.ensures c.as_slice-2.ensures.value
     (g.D.Disk.state c.args.disk.now).seen (g.D.Disk.state c.seal_group-sealed.new.disk).seen
     (c.seal_group-sealed.ensures.at_the_gate (search rules)) in
     stops_of c.args.pool.now (closed_of c.args.closed.now) c.requires.sound c.args.planned.next c.args.planned.parts.items
@@ -108,12 +104,10 @@ returns-clause-synced g c =
     let count : c.sectors-sectors.result ≡ sectors = c.sectors-sectors.ensures.count in
     let small : sectors < 2 ^ 64 = subst (λ n. n < 2 ^ 64) count c.sectors-sectors.type_inv in
     let tells = subst (λ n. TellsImage n (g.D.Disk.state c.args.disk.now).seen) count c.sectors-sectors.ensures.told in
-    let spelt = spelt_by c.args.planned.next c.as_slice.result.now (record { table = c.next.inside.table; logs = c.next.inside.logs })
-    (c.as_slice.ensures ∙ ap (λ (h : Held). h.slots) c.next.view_is) (ap (λ (h : Held). h.table) c.next.view_is)
-    (ap (λ (h : Held). h.logs) c.next.view_is)
-    c.slots_fit.ensures c.table_fits.ensures c.logs_fit.ensures.active c.logs_fit.ensures.flushing in
-    let seals = sealed_as_planned c.args.planned.seal c.args.closed.now.contents.items c.as_slice-2.result.now c.args.planned.parts.items
-    c.as_slice-3.result.now c.as_slice-2.ensures c.as_slice-3.ensures.value
+    let spelt = spelt_by c.args.planned.next c.args.planned.next.slots c.next.inside.logs refl (ap (λ (h : Held). h.logs) c.next.view_is)
+    c.requires.planned.slots_fit c.requires.planned.zap_fits c.logs_fit.ensures.active c.logs_fit.ensures.flushing in
+    let seals = sealed_as_planned c.args.planned.seal c.args.closed.now.contents.items c.as_slice.result.now c.args.planned.parts.items
+    c.as_slice-2.result.now c.as_slice.ensures c.as_slice-2.ensures.value
     (g.D.Disk.state c.args.disk.now).seen (g.D.Disk.state c.seal_group-sealed.new.disk).seen c.in_default.ensures.sealed in
     syncs_of c.args.pool.now (closed_of c.args.closed.now) c.requires.sound c.args.planned.next c.args.planned.parts.items
     c.args.planned.seal
@@ -142,14 +136,12 @@ returns-clause-any_moment g c image s told pending over =
     let count : c.sectors-sectors.result ≡ sectors = c.sectors-sectors.ensures.count in
     let small : sectors < 2 ^ 64 = subst (λ n. n < 2 ^ 64) count c.sectors-sectors.type_inv in
     let tells = subst (λ n. TellsImage n (g.D.Disk.state c.args.disk.now).seen) count c.sectors-sectors.ensures.told in
-    let spelt = spelt_by c.args.planned.next c.as_slice.result.now (record { table = c.next.inside.table; logs = c.next.inside.logs })
-    (c.as_slice.ensures ∙ ap (λ (h : Held). h.slots) c.next.view_is) (ap (λ (h : Held). h.table) c.next.view_is)
-    (ap (λ (h : Held). h.logs) c.next.view_is)
-    c.slots_fit.ensures c.table_fits.ensures c.logs_fit.ensures.active c.logs_fit.ensures.flushing in
+    let spelt = spelt_by c.args.planned.next c.args.planned.next.slots c.next.inside.logs refl (ap (λ (h : Held). h.logs) c.next.view_is)
+    c.requires.planned.slots_fit c.requires.planned.zap_fits c.logs_fit.ensures.active c.logs_fit.ensures.flushing in
     let is_image = subst (λ (o : Option Image). TellsImage sectors o) told tells in
     let can = subst (λ (o : Option Image). CanSyncOver o c.args.pool.now (closed_of c.args.closed.now)) told c.requires.over in
-    let run = may_be_as_planned c.args.planned.seal c.args.closed.now.contents.items c.as_slice-2.result.now c.args.planned.parts.items
-    c.as_slice-3.result.now c.as_slice-2.ensures c.as_slice-3.ensures.value image
+    let run = may_be_as_planned c.args.planned.seal c.args.closed.now.contents.items c.as_slice.result.now c.args.planned.parts.items
+    c.as_slice-2.result.now c.as_slice.ensures c.as_slice-2.ensures.value image
     (c.seal_group-sealed.ensures.any_moment image told pending) in (
       c.args.planned.next.pages,
       pages_after c.args.pool.now (closed_of c.args.closed.now) c.args.planned.next c.args.planned.parts.items c.args.planned.seal

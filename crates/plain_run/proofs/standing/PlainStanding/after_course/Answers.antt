@@ -1,7 +1,7 @@
 use Rattle.std.proofs.Common.{◌∙◌, ◌++◌, List, map, ap, refl}
 use Rattle.pool_model.specs.Pool.{Pool, Pointer}
 use Rattle.pool_model.specs.Command.{Course}
-use Rattle.pool_model.specs.Logs.{LoggedTable, sync_logged}
+use Rattle.pool_model.specs.Replaying.{LoggedTable, sync_logged}
 use Rattle.plain_run.specs.Openings.{bytes_at}
 use Rattle.plain_run.specs.Placed.{Placed, placed_of}
 use Rattle.plain_run.proofs.Afterwards.{bytes_at-after, same_standing}

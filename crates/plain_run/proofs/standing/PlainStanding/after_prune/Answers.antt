@@ -1,7 +1,7 @@
 use Rattle.std.proofs.Common.{◌∙◌, ◌+◌, refl, ap}
 use Rattle.pool_model.specs.Pool.{Pool}
 use Rattle.pool_model.specs.Prune.{after_prune}
-use Rattle.pool_model.specs.Logs.{LoggedTable, sync_logged}
+use Rattle.pool_model.specs.Replaying.{LoggedTable, sync_logged}
 use Rattle.plain_run.proofs.Afterwards.{same_standing}
 use Rattle.plain_run.proofs.standing.PlainStanding.after_prune.Goals as goal
 

@@ -1,7 +1,0 @@
-use Rattle.log_pair.proofs.PairLaws.{left_more}
-use Rattle.log_pair.proofs.replaying.left_in.Goals as goal
-
-pub changes-preserved : goal.changes-preserved
-changes-preserved c =
-    left_more c.args.checkpoint.now c.args.active.now c.args.log.now c.changes.change-index _ c.changes-test.true c.changes.invariant
-    c.in_ok-set_left.ensures

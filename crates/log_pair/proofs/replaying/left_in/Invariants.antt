@@ -1,6 +1,0 @@
-use Rattle.std.proofs.Common.{◌≡◌, take}
-use Rattle.pool_model.specs.Logs.{left_in}
-use Rattle.log_pair.proofs.replaying.left_in.Given as goal
-
-abbrev pub invariant-changes : goal.invariant-changes
-invariant-changes l = l.left ≡ left_in l.checkpoint l.active (take l.change-index l.log)

@@ -1,7 +1,0 @@
-use Rattle.std.proofs.Common.{◌≡◌, drop, map}
-use Rattle.grant_book.specs.Sectors.{marked}
-use Rattle.txg_sync.proofs.used.mark_homes.Given as goal
-
-abbrev pub invariant-entries : goal.invariant-entries
-invariant-entries l = marked l.used (map (λ entry. entry.home.place) (drop l.entry-index l.entries)) ≡ marked l.initial.used
-    (map (λ entry. entry.home.place) l.entries)
