@@ -1,9 +1,9 @@
 //! Homes that are put into the two classes, moved from one to the other, looked up, listed and taken out.
 
 use crate::comparing::{assert_same, assert_same_at};
-use crate::parts::{Reader, entry, home, key, reader_of};
+use crate::parts::{Reader, entry, home, home_in, key, reader_of};
 use ddt_class::Classes;
-use ddt_entry::{Entry, Home};
+use ddt_entry::Entry;
 use disk_model::MemDisk;
 use page_tree::PageFault;
 use std::alloc::Global;
@@ -57,14 +57,6 @@ fn put_all(
     Ok(())
 }
 
-/// A home of this place and count, where there is one.
-fn home_in(row: Option<(u64, u64)>) -> Option<Home> {
-    match row {
-        None => None,
-        Some((place, count)) => Some(home(place, count)),
-    }
-}
-
 /// Sees which home each key has.
 fn assert_found(rt: &impl Abort, table: &Classes, disk: &MemDisk, reader: &mut Reader) {
     for (byte, row) in FOUND {
@@ -82,6 +74,7 @@ fn assert_entries(
     reader: &mut Reader,
     wanted: &[Entry],
 ) -> Result<(), PageFault> {
+    table.is_table();
     let listed = table.entries(alloc, disk, reader)?;
     assert_same(rt, "the entries", listed.as_slice(), wanted);
     Ok(())

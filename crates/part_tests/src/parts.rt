@@ -32,6 +32,14 @@ pub(crate) fn home(place: u64, count: u64) -> Home {
     }
 }
 
+/// A home of this place and count, where there is one.
+pub(crate) fn home_in(row: Option<(u64, u64)>) -> Option<Home> {
+    match row {
+        None => None,
+        Some((place, count)) => Some(home(place, count)),
+    }
+}
+
 /// The entry of the key of this byte, with such a home.
 pub(crate) fn entry(byte: u8, place: u64, count: u64) -> Entry {
     Entry {

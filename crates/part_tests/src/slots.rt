@@ -108,6 +108,7 @@ fn assert_listed(
     disk: &MemDisk,
     reader: &mut Reader,
 ) -> Result<(), PageFault> {
+    table.are_slots();
     let listed = table.slots(alloc, disk, reader)?;
     let wanted = [record(3, 7, 74), record(3, 65_535, 70), record(15, 0, 73)];
     assert_same(rt, "the slots", listed.as_slice(), wanted.as_slice());

@@ -7,12 +7,19 @@ use std::alloc::{AllocError, Global};
 use std::process::Abort;
 use std::test::Fail;
 
-/// A group that writes this many blocks of two bytes, each its number, to the slots from one on.
-fn push_group(alloc: Global, text: &mut String, first: u32, count: u32) -> Result<(), AllocError> {
+/// A group that writes this many blocks of two bytes, the numbers from `content` on, to the slots from `first` on.
+pub(crate) fn push_group(
+    alloc: Global,
+    text: &mut String,
+    first: u32,
+    content: u32,
+    count: u32,
+) -> Result<(), AllocError> {
     text.push_str("group 1000\n")?;
     for number in 0..count {
         let slot = first.wrapping_add(number);
-        let line = format!(in alloc; "0 write {slot} {number:04x}\n")?;
+        let content = content.wrapping_add(number);
+        let line = format!(in alloc; "0 write {slot} {content:04x}\n")?;
         text.push_str(line.as_str())?;
     }
     text.push_str("end\n")?;
@@ -41,9 +48,9 @@ fn push_sealed(
 /// Fifty blocks, the same fifty once more, and sixty writes for which there is no room.
 fn file_of_shared_blocks(alloc: Global) -> Result<String, AllocError> {
     let mut file = String::new(alloc);
-    push_group(alloc, &mut file, 0, 50)?;
-    push_group(alloc, &mut file, 100, 50)?;
-    push_group(alloc, &mut file, 200, 60)?;
+    push_group(alloc, &mut file, 0, 0, 50)?;
+    push_group(alloc, &mut file, 100, 0, 50)?;
+    push_group(alloc, &mut file, 200, 0, 60)?;
     Ok(file)
 }
 
@@ -73,14 +80,43 @@ fn a_key_that_is_changed_twice_counts_twice_in_its_log(rt: HostRuntime) -> Resul
     )
 }
 
+/// A thousand blocks in the first group of a pool.
+pub(crate) fn file_of_a_thousand(alloc: Global) -> Result<String, AllocError> {
+    let mut file = String::new(alloc);
+    push_group(alloc, &mut file, 0, 0, 1_000)?;
+    Ok(file)
+}
+
+/// Runs it over a new pool of so many sectors.
+fn run_a_thousand(rt: &impl Abort, alloc: Global, sectors: u64, report: &str) -> Result<(), Fail> {
+    let file = file_of_a_thousand(alloc)?;
+    let mut disk = MemDisk::new(alloc, sectors)?;
+    assert_runs(rt, alloc, MAKE, &mut disk, file.as_str(), report)
+}
+
+/// A new pool has no pages, and with nothing to flush the limit is 64: a thousand writes need
+/// 1000 + 2 * (6 * 1000 + 392) + 398 = 14182. All sectors but the ring's 32 are free.
+#[test]
+fn a_thousand_writes_lack_one_sector(rt: HostRuntime) -> Result<(), Fail> {
+    let report = "group 2 nospace 14182 14181\n";
+    run_a_thousand(&rt, rt.alloc(), 14_213, report)
+}
+
+#[test]
+fn a_thousand_writes_have_just_room_enough(rt: HostRuntime) -> Result<(), Fail> {
+    let mut report = String::new(rt.alloc());
+    push_sealed(rt.alloc(), &mut report, 2, 0, 1_000, "new")?;
+    run_a_thousand(&rt, rt.alloc(), 14_214, report.as_str())
+}
+
 /// Two hundred blocks, eight groups without commands, and 511 writes for which there is no room.
 fn file_of_a_flush(alloc: Global) -> Result<String, AllocError> {
     let mut file = String::new(alloc);
-    push_group(alloc, &mut file, 0, 200)?;
+    push_group(alloc, &mut file, 0, 0, 200)?;
     for _ in 0..8 {
         file.push_str("group 1000\nend\n")?;
     }
-    push_group(alloc, &mut file, 1_000, 511)?;
+    push_group(alloc, &mut file, 1_000, 0, 511)?;
     Ok(file)
 }
 

@@ -151,7 +151,7 @@ fn fail_at(rt: &impl Abort, alloc: Global, call: u64) -> Result<(), Fail> {
 }
 
 /// The disk that a crash by this choice leaves.
-fn crashed(rt: &impl Abort, disk: MemDisk, choice: u8) -> Result<MemDisk, Fail> {
+pub(crate) fn crashed(rt: &impl Abort, disk: MemDisk, choice: u8) -> Result<MemDisk, Fail> {
     assert!(rt; choice <= 3);
     match disk.crash(choice) {
         Ok(left) => Ok(left),
