@@ -6,7 +6,7 @@ ghost use Rattle.pool_model.specs.Table.{AreRising, entry_at, set_entry, drop_en
 ghost use Rattle.ddt_class.specs.Classes.{class_in, counts_in, count_of, put_in, home_before};
 
 use crate::merging::merged;
-use ddt_entry::{Home, Key};
+use ddt_entry::{Entry, Home, Key};
 use disk_model::Disk;
 use page_tree::{FindFault, PageFault, PageReader};
 use plain_table::HomeMap;
@@ -110,6 +110,22 @@ impl Classes {
         ensures counted { AllByRecursion (λ entry. nat_lt 0 entry.home.count ≡ true) self.now }
     {
         let _counts = self.counts;
+    }
+
+    /// The home of a key. Takes no memory, and reads no sector.
+    pub fn home_of(&self, key: &Key) -> Option<Home>
+        ensures { result ≡ entry_at key.now self.now }
+    {
+        self.unique.find(key).or(self.duplicate.find(key))
+    }
+
+    /// All entries, sorted by key. The error is want of memory.
+    pub fn listed(&self, alloc: Global) -> Result<Vec<Entry>, AllocError>
+        ensures { IfOk result (λ list. list.items ≡ self.now) }
+    {
+        let unique = self.unique.entries(alloc)?;
+        let duplicate = self.duplicate.entries(alloc)?;
+        Ok(merged(alloc, unique.as_slice(), duplicate.as_slice())?.into_vec())
     }
 
     /// The home of a key. Takes no memory. Over lists in memory no sector is read, and there is no fault.

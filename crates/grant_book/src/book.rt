@@ -1,6 +1,6 @@
 ghost use Rattle.std.specs.Prelude.{◌≡◌, ◌+◌, ◌<◌, ◌≤◌, ◌++◌, false, true, not, [], ℕ, List, Bool, length, drop, replicate, slice_index_or, slice_set, IfOk, OnErr};
 ghost use Rattle.std.specs.List.{count_by, All};
-ghost use Rattle.grant_book.specs.Sectors.{free_from, free_sectors, marked, AreFirstFree};
+ghost use Rattle.grant_book.specs.Sectors.{free_from, free_sectors, marked, AreFirstFree, FindsFree};
 ghost use Rattle.grant_book.specs.Book.{Book, kept, settled, unmarked, IsTaken, IsGranted};
 
 use crate::grant::Grant;
@@ -158,6 +158,21 @@ impl GrantBook {
         ensures { result ≡ count_by not self.now.used }
     {
         self.free
+    }
+
+    /// The first sectors that aren't used, in rising order, as many as are wanted; `None` where there are
+    /// fewer. Marks none. The error is want of memory.
+    pub fn free_places(&self, alloc: Global, wanted: u64) -> Result<Option<PlaceList>, AllocError>
+        ensures { IfOk result (FindsFree self.now.used wanted) }
+    {
+        Err(AllocError)
+    }
+
+    /// Which sectors are used, pending or not. The error is want of memory.
+    pub fn used(&self, alloc: Global) -> Result<SectorSet, AllocError>
+        ensures { IfOk result (λ set. set ≡ self.now.used) }
+    {
+        Err(AllocError)
     }
 
     /// Notes in a set which sectors are used and not pending.

@@ -64,6 +64,13 @@ impl LogObject {
         Ok(())
     }
 
+    /// All changes in the order in which they were appended. Takes no memory.
+    pub fn as_slice(&self) -> &[Change]
+        ensures { result.now ≡ self.now.changes }
+    {
+        self.changes.as_slice()
+    }
+
     /// All changes in the order in which they were appended. The error is want of memory.
     pub fn replay<D: Disk, P: PageReader<D>>(
         &self,

@@ -1,18 +1,19 @@
-ghost use Rattle.std.specs.Prelude.{◌≡◌, ◌≤◌, ◌<◌, [], length, slice_get, Some, IfOk, IfErr, OnOk, OnErr};
+ghost use Rattle.std.specs.Prelude.{◌≡◌, ◌≤◌, ◌<◌, [], fold, None, length, slice_get, Some, IfOk, IfErr, OnOk, OnErr};
 ghost use Rattle.std.specs.Option.{option_copied};
 ghost use Rattle.std.specs.Map.Iter.{ShowsInOrder, deref};
 ghost use Rattle.ddt_entry.specs.declared.entry.Change.{Change as Changed};
 ghost use Rattle.page_tree.specs.declared.fault.PageFault.TheVariants.{Memory};
-ghost use Rattle.pool_model.specs.Table.{change_at};
+ghost use Rattle.pool_model.specs.Table.{change_at, AreRising, set_found};
+ghost use Rattle.pool_model.specs.Logs.{empty_logs};
 ghost use Rattle.plain_table.specs.Keyed.{first};
 ghost use Rattle.log_pair.specs.Paired.{IsReplayed, of_logs, with_change, popped, emptied_pair, swapped_pair, list_at, log_at};
 
-use ddt_entry::{Change, Key, key_of};
+use ddt_entry::{Change, Entry, Key, key_of};
 use disk_model::Disk;
 use log_object::LogObject;
 use page_tree::{PageFault, PageReader};
 use plain_table::{ChangeMap, last_changes, left_in};
-use std::alloc::Global;
+use std::alloc::{AllocError, Global};
 use std::collections::btree_map::Values;
 use std::marker::Model;
 use std::mem::swap;
@@ -37,6 +38,40 @@ impl Model for LogPair {
 }
 
 impl LogPair {
+    /// Logs without changes. Takes no memory.
+    pub fn new(alloc: Global) -> LogPair
+        ensures { result ≡ record { active = []; flush = []; logs = empty_logs; checkpoint = None } }
+    {
+        LogPair {
+            active: ChangeMap::new(alloc),
+            flush: ChangeMap::new(alloc),
+            active_log: LogObject::of_root(alloc, None, 0, None),
+            flushing_log: LogObject::of_root(alloc, None, 0, None),
+        }
+    }
+
+    /// All changes that were appended to the active log (0) or the flushing log (1) since it was last empty, in
+    /// their order. Takes no memory.
+    pub fn kept(&self, at: u32) -> &[Change]
+        requires { at < 2 }
+        ensures { result.now ≡ log_at at self.now.logs }
+    {
+        if at == 0 {
+            self.active_log.as_slice()
+        } else {
+            self.flushing_log.as_slice()
+        }
+    }
+
+    /// The homes that are found where these are stored, which rise by key: the flushing list lies over them, and
+    /// the active list over that. The error is want of memory.
+    pub fn homes_found(&self, alloc: Global, stored: &[Entry]) -> Result<Vec<Entry>, AllocError>
+        requires { AreRising stored.now }
+        ensures { IfOk result (λ found. found.items ≡ fold set_found (fold set_found stored.now self.now.flush) self.now.active) }
+    {
+        Err(AllocError)
+    }
+
     /// The pair of these logs, with the lists that they are replayed to. The error is want of memory.
     pub fn replay<D: Disk, P: PageReader<D>>(
         alloc: Global,

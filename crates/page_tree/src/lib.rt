@@ -37,4 +37,4 @@ pub use chain_page::PAGE_RECORDS;
 pub use chain_walk::{RecordList, SectorList, read_chain};
 pub use fault::{FindFault, PageFault};
 pub use pointer::{PagePtr, pointer_fits, pointers_fit};
-pub use reader::{PageReader, PlainReader};
+pub use reader::{NoPages, PageReader, PlainReader};
