@@ -29,7 +29,7 @@ mod table;
 pub use change_map::ChangeMap;
 pub use home_map::HomeMap;
 pub use logged::{KeptLogs, LoggedPlainTable, sync_logged};
-pub use made::{count_entries, counted, from_classes};
+pub use made::{count_entries, from_classes};
 pub use replaying::{last_changes, left_in};
 pub use sync::{SWAP_AGE, SWAP_KEYS};
 pub use table::{PlainTable, entry_at, found_over};

@@ -1,4 +1,4 @@
-ghost use Rattle.std.specs.Prelude.{◌≡◌, ◌==◌, ◌<◌, ◌^◌, IfOk, OnOk, fold, filter, length, nat_lt};
+ghost use Rattle.std.specs.Prelude.{◌≡◌, ◌==◌, ◌<◌, ◌^◌, IfOk, OnOk, fold, filter, length};
 ghost use Rattle.pool_model.specs.Table.{AreRising, set_entry, set_found, entries_found, waiting_in};
 
 use crate::home_map::HomeMap;
@@ -85,14 +85,6 @@ fn not_counted(mut entries: Vec<Entry>) -> Vec<Entry>
     ensures { result.items ≡ filter (λ entry. entry.home.count == 0) entries.items }
 {
     entries.retain(|entry| entry.home.count == 0);
-    entries
-}
-
-/// The entries with a count above 0.
-pub fn counted(mut entries: Vec<Entry>) -> Vec<Entry>
-    ensures { result.items ≡ filter (λ entry. nat_lt 0 entry.home.count) entries.items }
-{
-    entries.retain(|entry| entry.home.count > 0);
     entries
 }
 
