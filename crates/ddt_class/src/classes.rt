@@ -141,7 +141,7 @@ impl Classes {
         ensures fits { P.fits reader.new disk.now }
         ensures count { P.faults reader.old ≤ P.faults reader.new }
     {
-        Ok(self.unique.find(key).or(self.duplicate.find(key)))
+        Ok(self.home_of(key))
     }
 
     /// Gives a key this home, in the class of its count; the other class has the key no more. The error is
@@ -203,9 +203,7 @@ impl Classes {
         ensures fits { P.fits reader.new disk.now }
         ensures count { P.faults reader.old ≤ P.faults reader.new }
     {
-        let unique = self.unique.entries(alloc)?;
-        let duplicate = self.duplicate.entries(alloc)?;
-        Ok(merged(alloc, unique.as_slice(), duplicate.as_slice())?)
+        Ok(EntryList::from_vec(self.listed(alloc)?))
     }
 
     /// How many entries a class has: 0 names the unique one, any other number the duplicate one.

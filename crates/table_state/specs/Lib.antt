@@ -7,6 +7,7 @@ pub mod Tables
 pub mod Sealed
 pub mod Sound
 pub mod Holding
+pub mod Kept
 pub mod Closing
 pub mod Over
 pub mod Spelling

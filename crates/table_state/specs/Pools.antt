@@ -14,12 +14,13 @@ use Rattle.slot_table.specs.Slots.{set_slot}
 use Rattle.table_state.specs.Flat.{StandsFor, pointer_of, logs_in}
 use Rattle.slot_table.specs.declared.slot.SlotRecord.{SlotRecord}
 
--- what a pool in memory keeps: the slots, the table and its logs, the sectors of the image's pages, which sectors are used, the settings, and
--- the seal's numbers
+-- what a pool in memory keeps: the slots, the table and its logs, how many homes it counts, the sectors of the image's pages, which sectors are
+-- used, the settings, and the seal's numbers
 pub record Held : Type 0 where
   pub slots : List SlotRecord
   pub table : TableState
   pub logs : Logs
+  pub keys : ℕ
   pub pages : List ℕ
   pub used : List Bool
   pub modes : List Mode
@@ -47,6 +48,7 @@ new_held tag sectors = record {
   slots = [];
   table = empty_table;
   logs = empty_logs;
+  keys = 0;
   pages = [];
   used = ring_used sectors;
   modes = replicate 16 On;

@@ -1,10 +1,10 @@
 -- What holds of a pool in memory whatever the disk tells: its numbers are in their ranges.
-use Rattle.std.specs.Prelude.{◌≡◌, ◌<◌, ◌≤◌, ℕ, true, length, slice_index_or, Some}
+use Rattle.std.specs.Prelude.{◌≡◌, ◌<◌, ◌≤◌, ◌^◌, ℕ, true, length, slice_index_or, Some}
 use Rattle.std.specs.List.{AllByRecursion}
 use Rattle.ddt_entry.specs.Spelling.{IsKeyLength}
 use Rattle.ddt_entry.specs.declared.key.Key.{Key}
 use Rattle.ddt_entry.specs.declared.entry.Home.{Home}
-use Rattle.pool_model.specs.Table.{TableState, IsTable, found}
+use Rattle.pool_model.specs.Table.{TableState, IsTable, found, counted_homes}
 use Rattle.slot_table.specs.Slots.{AreRisingSlots}
 use Rattle.table_state.specs.Pools.{Held}
 use Rattle.table_state.specs.SealForms.{fewest_sectors, most_sectors, last_group}
@@ -33,4 +33,6 @@ pub record IsSound (held : Held) : Type 0 where
   pub log_lengths : HaveKeyLengths held.logs
   pub replays : Replays held.table held.logs
   pub sorted : IsTable held.table
+  pub keys_are : held.keys ≡ length (counted_homes held.table)
+  pub keys_few : held.keys < 2 ^ 62
   pub counts : (key : Key) (home : Home) → found held.table key ≡ Some home → home.count ≤ length held.slots

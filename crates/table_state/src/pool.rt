@@ -1,6 +1,6 @@
-use grant_book::SectorSet;
+use crate::table::DedupTable;
+use grant_book::GrantBook;
 use page_tree::SectorList;
-use plain_table::{KeptLogs, PlainTable};
 use pool_model::Mode;
 use slot_table::SlotMap;
 use std::marker::Model;
@@ -11,13 +11,13 @@ pub struct Pool {
     /// The slots that hold a pointer, in rising order of lane and slot.
     pub slots: SlotMap,
     /// The dedup table with its logs.
-    pub table: PlainTable,
-    /// The changes of its logs, in the order in which they were appended.
-    pub logs: KeptLogs,
+    pub table: DedupTable,
+    /// How many homes the table finds that are counted.
+    pub keys: u64,
     /// The sectors of the image's metadata pages.
     pub pages: SectorList,
-    /// The sectors that the ring, a page, a pointer or a waiting home names.
-    pub used: SectorSet,
+    /// Which sectors the ring, a page, a pointer or a waiting home names.
+    pub book: GrantBook,
     /// The mode of each lane.
     pub modes: [Mode; 16],
     /// The quota, in bytes at 256 a key.
@@ -37,10 +37,11 @@ impl Model for Pool {
 
     ghost view = { λ pool. record {
       slots = pool.slots;
-      table = pool.table;
-      logs = pool.logs;
+      table = pool.table.table;
+      logs = pool.table.logs;
+      keys = pool.keys;
       pages = pool.pages.items;
-      used = pool.used;
+      used = pool.book.used;
       modes = pool.modes;
       quota = pool.limit;
       tag = pool.tag;

@@ -30,7 +30,7 @@ impl Pool {
     pub fn free(&self) -> u64
         ensures { result ≡ count_by not self.now.used }
     {
-        self.used.free()
+        self.book.free()
     }
 
     /// How many sectors have to be free for a group of so many commands that may change a slot or the
@@ -40,7 +40,7 @@ impl Pool {
         requires writes_fit { writes ≤ 1_048_576 }
         ensures { result ≡ need (length self.now.pages) (flush_limit self.now.table) commands writes }
     {
-        let growth = 3 * (64 + self.table.flush.len() / 8) + 200;
+        let growth = 3 * self.table.flush_limit() + 200;
         let metadata = self.pages() + 6 * commands + growth;
         if writes == 0 {
             return metadata;
