@@ -1,5 +1,5 @@
 -- A pool in memory, and what it stands for over the newest sealed image.
-use Rattle.std.specs.Prelude.{◌≡◌, ℕ, Bool, List, [], length, map, fold, replicate, slice_set, ◌++◌, Option, None, ◌-◌}
+use Rattle.std.specs.Prelude.{◌≡◌, ℕ, Bool, false, List, [], length, map, fold, replicate, slice_set, ◌++◌, Option, None, ◌-◌}
 use Rattle.disk_model.specs.Images.{Image}
 use Rattle.pool_model.specs.declared.commands.Mode.{Mode}
 use Rattle.pool_model.specs.declared.closed.SlotChange.{SlotChange}
@@ -15,7 +15,7 @@ use Rattle.table_state.specs.Flat.{StandsFor, pointer_of, logs_in}
 use Rattle.slot_table.specs.declared.slot.SlotRecord.{SlotRecord}
 
 -- what a pool in memory keeps: the slots, the table and its logs, how many homes it counts, the sectors of the image's pages, which sectors are
--- used, the settings, and the seal's numbers
+-- used, and which of them the next settling of the book lets go, the settings, and the seal's numbers
 pub record Held : Type 0 where
   pub slots : List SlotRecord
   pub table : TableState
@@ -23,6 +23,7 @@ pub record Held : Type 0 where
   pub keys : ℕ
   pub pages : List ℕ
   pub used : List Bool
+  pub pending : List Bool
   pub modes : List Mode
   pub quota : Option ℕ
   pub tag : ℕ
@@ -51,6 +52,7 @@ new_held tag sectors = record {
   keys = 0;
   pages = [];
   used = ring_used sectors;
+  pending = replicate sectors false;
   modes = replicate 16 On;
   quota = None;
   tag = tag;

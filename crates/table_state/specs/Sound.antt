@@ -1,5 +1,5 @@
 -- What holds of a pool in memory whatever the disk tells: its numbers are in their ranges.
-use Rattle.std.specs.Prelude.{◌≡◌, ◌<◌, ◌≤◌, ◌^◌, ℕ, true, length, slice_index_or, Some}
+use Rattle.std.specs.Prelude.{◌≡◌, ◌<◌, ◌≤◌, ◌^◌, ℕ, true, false, replicate, length, slice_index_or, Some}
 use Rattle.std.specs.List.{AllByRecursion}
 use Rattle.ddt_entry.specs.Spelling.{IsKeyLength}
 use Rattle.ddt_entry.specs.declared.key.Key.{Key}
@@ -24,6 +24,7 @@ pub record IsSound (held : Held) : Type 0 where
   pub first : 1 ≤ held.group
   pub last : held.group ≤ last_group
   pub used_len : length held.used ≡ held.sectors
+  pub settled : held.pending ≡ replicate held.sectors false
   pub ring : (sector : ℕ) → sector < 32 → slice_index_or held.used sector true ≡ true
   pub slots_within : AllByRecursion (λ slot. is_slot held.sectors held.group slot ≡ true) held.slots
   pub slots_rising : AreRisingSlots held.slots

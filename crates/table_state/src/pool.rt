@@ -42,6 +42,7 @@ impl Model for Pool {
       keys = pool.keys;
       pages = pool.pages.items;
       used = pool.book.used;
+      pending = pool.book.pending;
       modes = pool.modes;
       quota = pool.limit;
       tag = pool.tag;
