@@ -1,4 +1,4 @@
-ghost use Rattle.std.specs.Prelude.{◌≡◌, ◌≤◌, ◌<◌, [], fold, None, length, slice_get, Some, IfOk, IfErr, OnOk, OnErr};
+ghost use Rattle.std.specs.Prelude.{◌≡◌, ◌≤◌, ◌<◌, ◌^◌, [], fold, None, length, slice_get, Some, IfOk, IfErr, OnOk, OnErr};
 ghost use Rattle.std.specs.Option.{option_copied};
 ghost use Rattle.std.specs.Map.Iter.{ShowsInOrder, deref};
 ghost use Rattle.ddt_entry.specs.declared.entry.Change.{Change as Changed};
@@ -193,7 +193,8 @@ impl LogPair {
     /// How many changes are in `active` (0) or `flush` (1). Takes no memory.
     pub fn len(&self, at: u32) -> u64
         requires { at < 2 }
-        ensures { result ≡ length (list_at at self.now) }
+        ensures count { result ≡ length (list_at at self.now) }
+        ensures small { result < 2 ^ 63 }
     {
         self.list(at).len()
     }

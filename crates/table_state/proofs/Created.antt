@@ -125,7 +125,10 @@ new_is_held tag sectors image enough few there seals = record {
   table_is = refl;
   logs_are = refl;
   pages_are = refl;
+  keys_are = refl;
+  keys_few = omega arith;
   used_are = used_by_none sectors;
+  settled = refl;
   modes_are = refl;
   quota_is = refl;
   group_is = refl;
@@ -140,6 +143,7 @@ new_is_sound tag sectors enough few = record {
   first = omega arith;
   last = omega arith;
   used_len = length-ring_used sectors;
+  settled = refl;
   ring = λ sector within. ring_used-at sectors sector true (omega (arith, within, enough)) ∙ lt-ltb sector 32 within;
   slots_within = tt;
   slots_rising = tt;
@@ -149,6 +153,8 @@ new_is_sound tag sectors enough few = record {
   log_lengths = record { active = tt; flushing = tt };
   replays = record { active = refl; flush = refl };
   sorted = empty_sorted;
+  keys_are = refl;
+  keys_few = omega arith;
   counts = λ key home found. absurd (cc found);
 }
 

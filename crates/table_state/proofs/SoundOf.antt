@@ -15,7 +15,7 @@ use Rattle.ddt_entry.specs.declared.record.Malformed.{Malformed}
 use Rattle.disk_model.specs.Images.{Image}
 use Rattle.uber_ring.specs.declared.seal.Seal.{Seal}
 use Rattle.pool_model.specs.Pool.{Pool, Pointer}
-use Rattle.pool_model.specs.Table.{TableState, IsTable, change_at, is_past}
+use Rattle.pool_model.specs.Table.{TableState, IsTable, change_at, is_past, counted_homes}
 use Rattle.pool_model.specs.Logs.{last_changes, is_missing}
 use Rattle.table_state.specs.SealForms.{is_formed, has_group, has_size, has_flags, has_modes, has_checkpoint, fewest_sectors, most_sectors, last_group, checkpoint_in}
 use Rattle.table_state.specs.SlotRecords.{is_slot, in_range, slot_at, slot_in, kind_said, kind_at, slot_of as slot_said}
@@ -200,6 +200,7 @@ module _ (image : Image) (held : Held) (pool : Pool) (table : TableState) (is : 
         few = subst (λ n. n ≤ most_sectors) (sym is.sectors_are) numbers.few;
         first = subst (λ n. 1 ≤ n) (sym group_same) numbers.first;
         last = subst (λ n. n ≤ last_group) (sym group_same) numbers.last;
+        settled = is.settled;
         used_len = ap length is.used_are ∙ length-used_sectors held.sectors held.pages pool table;
         ring = λ sector first. ap (λ (used : List Bool). slice_index_or used sector true) is.used_are
             ∙ ring_is_used held.sectors held.pages pool table sector first;
@@ -209,6 +210,8 @@ module _ (image : Image) (held : Held) (pool : Pool) (table : TableState) (is : 
         logs_within = logs_ranged;
         log_lengths = subst HaveKeyLengths (sym is.logs_are) (read_log_lengths image seal flat is.stands.read);
         replays = held_replays;
+        keys_are = is.keys_are ∙ ap (λ (t : TableState). length (counted_homes t)) (sym is.table_is);
+        keys_few = is.keys_few;
         sorted = subst IsTable (sym table_same) (is_table_in seal flat is.stands.whole);
         slots_rising = subst AreRisingSlots (sym is.slots_are) is.stands.whole.slots_rising;
         counts = counts_held image held pool table is;

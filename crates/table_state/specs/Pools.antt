@@ -1,5 +1,5 @@
 -- A pool in memory, and what it stands for over the newest sealed image.
-use Rattle.std.specs.Prelude.{◌≡◌, ℕ, Bool, false, List, [], length, map, fold, replicate, slice_set, ◌++◌, Option, None, ◌-◌}
+use Rattle.std.specs.Prelude.{◌≡◌, ◌<◌, ◌^◌, ℕ, Bool, false, List, [], length, map, fold, replicate, slice_set, ◌++◌, Option, None, ◌-◌}
 use Rattle.disk_model.specs.Images.{Image}
 use Rattle.pool_model.specs.declared.commands.Mode.{Mode}
 use Rattle.pool_model.specs.declared.closed.SlotChange.{SlotChange}
@@ -8,7 +8,7 @@ use Rattle.pool_model.specs.declared.commands.Mode.TheVariants.{On}
 use Rattle.pool_model.specs.Pool.{Pool}
 use Rattle.pool_model.specs.Mirrors.{Stored}
 use Rattle.pool_model.specs.Space.{used_sectors}
-use Rattle.pool_model.specs.Table.{TableState, empty_table}
+use Rattle.pool_model.specs.Table.{TableState, empty_table, counted_homes}
 use Rattle.pool_model.specs.Logs.{Logs, empty_logs}
 use Rattle.slot_table.specs.Slots.{set_slot}
 use Rattle.table_state.specs.Flat.{StandsFor, pointer_of, logs_in}
@@ -37,7 +37,10 @@ pub record IsHeld (image : Image) (held : Held) (pool : Pool) (table : TableStat
   pub table_is : held.table ≡ table
   pub logs_are : held.logs ≡ logs_in stands.flat
   pub pages_are : held.pages ≡ stands.flat.named
+  pub keys_are : held.keys ≡ length (counted_homes table)
+  pub keys_few : held.keys < 2 ^ 62
   pub used_are : held.used ≡ used_sectors held.sectors held.pages pool table
+  pub settled : held.pending ≡ replicate held.sectors false
   pub modes_are : held.modes ≡ pool.modes
   pub quota_is : held.quota ≡ pool.quota
   pub group_is : held.group ≡ pool.group

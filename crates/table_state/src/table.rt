@@ -1,4 +1,4 @@
-ghost use Rattle.std.specs.Prelude.{◌≡◌, ◌+◌, ◌/◌, IfOk};
+ghost use Rattle.std.specs.Prelude.{◌≡◌, ◌≤◌, ◌+◌, ◌/◌, ◌^◌, IfOk};
 ghost use Rattle.pool_model.specs.Logs.{empty_logs};
 ghost use Rattle.pool_model.specs.Table.{empty_table, entries_found, flush_limit, found};
 
@@ -62,7 +62,8 @@ impl DedupTable {
 
     /// How many changes the next sync flushes. Takes no memory.
     pub fn flush_limit(&self) -> u64
-        ensures { result ≡ flush_limit self.now.table }
+        ensures count { result ≡ flush_limit self.now.table }
+        ensures few { result ≤ 64 + 2 ^ 60 }
     {
         64 + self.logs.len(1) / 8
     }
