@@ -1,9 +1,15 @@
--- How many pointers a change leaves its key.
-use Rattle.std.specs.Prelude.{⊤, ℕ, ◌≤◌}
+-- How many pointers a change leaves its key, and a home that no change names.
+use Rattle.std.specs.Prelude.{◌≡◌, ⊤, ℕ, ◌≤◌, List, None}
 use Rattle.ddt_entry.specs.declared.entry.Change.{Change}
 use Rattle.ddt_entry.specs.declared.entry.Change.TheVariants as changes
+use Rattle.ddt_entry.specs.declared.entry.Entry.{Entry}
+use Rattle.pool_model.specs.Table.{change_at}
 
 -- its home counts at most so many, or it has none
 abbrev pub LeavesAtMost : (most : ℕ) → Change → Type 0
 LeavesAtMost most (changes.Entry entry) = entry.home.count ≤ most
 LeavesAtMost most (changes.Gone key) = ⊤
+
+-- a home that no change names counts at most so many
+abbrev pub StaysAtMost : (most : ℕ) → (log : List Change) → Entry → Type 0
+StaysAtMost most log entry = change_at entry.key log ≡ None → entry.home.count ≤ most

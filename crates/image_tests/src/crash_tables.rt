@@ -20,11 +20,11 @@ fn cut_short(
     calls: u64,
     failing: u64,
 ) -> Result<SilentDisk, Fail> {
-    let (mut disk, mut pool) = with_a_pointer(rt, alloc)?;
+    let (mut disk, pool) = with_a_pointer(rt, alloc)?;
     let closed = group_of(alloc, put, made)?;
     let before = disk.inner.calls_made();
     disk.inner.fail_from(before.saturating_add(failing));
-    let is_done = pool.sync(rt, alloc, &mut disk, &closed).is_ok();
+    let is_done = pool.synced(rt, alloc, &mut disk, &closed).is_ok();
     assert_same_at(rt, "failing call", failing, is_done, failing > calls);
     Ok(disk)
 }

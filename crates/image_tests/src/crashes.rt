@@ -41,10 +41,12 @@ pub(crate) fn with_a_pointer(
 ) -> Result<(SilentDisk, SoundPool), Fail> {
     let mut disk = small_disk(alloc)?;
     created(rt, alloc, &mut disk)?;
-    let mut pool = imported(rt, alloc, &mut disk)?;
+    let empty = imported(rt, alloc, &mut disk)?;
     let first = one_write(alloc)?;
-    let answer = pool.sync(rt, alloc, &mut disk, &first);
-    assert_same(rt, "the first group", answer, Ok(2));
+    let Ok(pool) = empty.synced(rt, alloc, &mut disk, &first) else {
+        return Err("the first group isn't synced".into());
+    };
+    assert_same(rt, "the first group", pool.pool.sealed, 2);
     Ok((disk, pool))
 }
 

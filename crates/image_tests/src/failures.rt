@@ -2,28 +2,28 @@ use crate::comparing::{assert_same, assert_same_at};
 use crate::crashes::{assert_is_of, homes, slots, two_writes, with_a_pointer};
 use crate::groups::{assert_holds, entry, group_of};
 use crate::silent_disk::{SilentDisk, calls_of, small_disk};
-use crate::sound_pool::{SoundPool, created, imported};
+use crate::sound_pool::{SoundPool, created, fault_of, imported};
 use ddt_entry::Entry;
-use grant_book::SectorSet;
+use grant_book::GrantBook;
 use pool_model::{ChangeList, Closed, Outcome, SyncFault};
 use std::alloc::Global;
 use std::process::Abort;
 use std::test::Fail;
 use table_state::Pool;
 
-/// How a sync of two writes ends of which this call fails. The ninth call is the write of the gate, and the tenth the
-/// barrier behind it.
-const FAULTS: [(u64, SyncFault); 10] = [
-    (1, SyncFault::WriteFault),
-    (2, SyncFault::WriteFault),
-    (3, SyncFault::WriteFault),
-    (4, SyncFault::WriteFault),
-    (5, SyncFault::WriteFault),
-    (6, SyncFault::WriteFault),
-    (7, SyncFault::WriteFault),
-    (8, SyncFault::WriteFault),
-    (9, SyncFault::GateFault),
-    (10, SyncFault::GateFault),
+/// How a sync of two writes ends of which this call fails, and the group that the disk has then. The ninth call is the
+/// write of the gate, which isn't there if it fails, and the tenth the barrier behind it.
+const FAULTS: [(u64, SyncFault, u64); 10] = [
+    (1, SyncFault::WriteFault, 2),
+    (2, SyncFault::WriteFault, 2),
+    (3, SyncFault::WriteFault, 2),
+    (4, SyncFault::WriteFault, 2),
+    (5, SyncFault::WriteFault, 2),
+    (6, SyncFault::WriteFault, 2),
+    (7, SyncFault::WriteFault, 2),
+    (8, SyncFault::WriteFault, 2),
+    (9, SyncFault::GateFault, 2),
+    (10, SyncFault::GateFault, 3),
 ];
 
 /// Makes a call of a disk fail, counted from the next one on.
@@ -32,18 +32,20 @@ fn fail_call(disk: &mut SilentDisk, failing: u64) {
     disk.inner.fail_call(made.saturating_add(failing));
 }
 
-/// Sees that the sync of two writes ends in this fault, and leaves the pool as it was.
+/// Sees that the sync of two writes ends in this fault, and leaves the pool of this group on the disk.
 fn assert_fails(
     rt: &impl Abort,
     alloc: Global,
     disk: &mut SilentDisk,
-    pool: &mut SoundPool,
+    pool: SoundPool,
     fault: SyncFault,
+    group: u64,
 ) -> Result<(), Fail> {
     let closed = two_writes(alloc)?;
-    let answer = pool.sync(rt, alloc, disk, &closed);
-    assert_same(rt, "the fault", answer, Err(fault));
-    assert_is_of(rt, alloc, pool, 2)
+    let synced = pool.synced(rt, alloc, disk, &closed);
+    assert_same(rt, "the fault", fault_of(synced), Some(fault));
+    let found = imported(rt, alloc, disk)?;
+    assert_is_of(rt, alloc, &found, group)
 }
 
 /// Sees that it does so where this call fails.
@@ -52,16 +54,17 @@ fn assert_fails_at(
     alloc: Global,
     failing: u64,
     fault: SyncFault,
+    group: u64,
 ) -> Result<(), Fail> {
-    let (mut disk, mut pool) = with_a_pointer(rt, alloc)?;
+    let (mut disk, pool) = with_a_pointer(rt, alloc)?;
     fail_call(&mut disk, failing);
-    assert_fails(rt, alloc, &mut disk, &mut pool, fault)
+    assert_fails(rt, alloc, &mut disk, pool, fault, group)
 }
 
 #[test]
 fn a_fault_is_told_as_what_it_was(rt: HostRuntime) -> Result<(), Fail> {
-    for (failing, fault) in FAULTS {
-        assert_fails_at(&rt, rt.alloc(), failing, fault)?;
+    for (failing, fault, group) in FAULTS {
+        assert_fails_at(&rt, rt.alloc(), failing, fault, group)?;
     }
     Ok(())
 }
@@ -70,22 +73,22 @@ fn a_fault_is_told_as_what_it_was(rt: HostRuntime) -> Result<(), Fail> {
 fn a_read_that_fails_is_told_as_such(rt: HostRuntime) -> Result<(), Fail> {
     // The new seal has the first meter, the import the second, and the two syncs one each, whose one read is that
     // of the gate.
-    let (mut disk, mut pool) = with_a_pointer(&rt, rt.alloc())?;
+    let (mut disk, pool) = with_a_pointer(&rt, rt.alloc())?;
     disk.inner.fail_reads(4, 1, 1);
     let fault = SyncFault::ReadFault;
-    assert_fails(&rt, rt.alloc(), &mut disk, &mut pool, fault)
+    assert_fails(&rt, rt.alloc(), &mut disk, pool, fault, 2)
 }
 
 /// An entry for each sector up to this one that isn't used.
 fn free_up_to(
     rt: &impl Abort,
     alloc: Global,
-    used: &SectorSet,
+    book: &GrantBook,
     last: u64,
 ) -> Result<Vec<Entry>, Fail> {
     let mut blocks = Vec::new(alloc);
     for place in 32..2048u64 {
-        if place <= last && is_free(rt, used, place) {
+        if place <= last && is_free(rt, book, place) {
             blocks.push(entry(7, place, 3, 1))?;
         }
     }
@@ -93,14 +96,14 @@ fn free_up_to(
 }
 
 /// Whether this sector isn't used.
-fn is_free(rt: &impl Abort, used: &SectorSet, place: u64) -> bool {
-    assert!(rt; place < used.len());
-    !used.has(place)
+fn is_free(rt: &impl Abort, book: &GrantBook, place: u64) -> bool {
+    assert!(rt; place < book.len());
+    !book.has(place)
 }
 
 /// The group that has a block in each free sector up to this one, and changes nothing.
 fn blocks_up_to(rt: &impl Abort, alloc: Global, pool: &Pool, last: u64) -> Result<Closed, Fail> {
-    let blocks = free_up_to(rt, alloc, &pool.used, last)?;
+    let blocks = free_up_to(rt, alloc, &pool.book, last)?;
     let mut closed = group_of(alloc, &[], blocks.as_slice())?;
     closed.changes = ChangeList::new(alloc);
     Ok(closed)
@@ -111,21 +114,22 @@ fn assert_refused(
     rt: &impl Abort,
     alloc: Global,
     disk: &mut SilentDisk,
-    pool: &mut SoundPool,
+    pool: SoundPool,
     closed: &Closed,
 ) {
     let made = calls_of(disk);
-    let answer = pool.sync(rt, alloc, disk, closed);
-    assert_same(rt, "the fault", answer, Err(SyncFault::Damaged(0)));
+    let synced = pool.synced(rt, alloc, disk, closed);
+    assert_same(rt, "the fault", fault_of(synced), Some(SyncFault::Damaged(0)));
     assert_same(rt, "the calls", calls_of(disk), made);
 }
 
 /// Sees that a group is refused which has blocks up to this sector, before a call of the disk is made.
 fn assert_no_room(rt: &impl Abort, alloc: Global, last: u64) -> Result<(), Fail> {
-    let (mut disk, mut pool) = with_a_pointer(rt, alloc)?;
+    let (mut disk, pool) = with_a_pointer(rt, alloc)?;
     let closed = blocks_up_to(rt, alloc, &pool.pool, last)?;
-    assert_refused(rt, alloc, &mut disk, &mut pool, &closed);
-    assert_is_of(rt, alloc, &pool, 2)
+    assert_refused(rt, alloc, &mut disk, pool, &closed);
+    let found = imported(rt, alloc, &mut disk)?;
+    assert_is_of(rt, alloc, &found, 2)
 }
 
 /// Sees that a disk has the pool of this group, in which nothing was changed since group 2.
@@ -143,10 +147,10 @@ fn assert_unchanged(
 
 /// Sees that a group is synced which has blocks up to this sector.
 fn assert_has_room(rt: &impl Abort, alloc: Global, last: u64) -> Result<(), Fail> {
-    let (mut disk, mut pool) = with_a_pointer(rt, alloc)?;
+    let (mut disk, pool) = with_a_pointer(rt, alloc)?;
     let closed = blocks_up_to(rt, alloc, &pool.pool, last)?;
-    let answer = pool.sync(rt, alloc, &mut disk, &closed);
-    assert_same_at(rt, "blocks up to", last, answer, Ok(3));
+    let synced = pool.synced(rt, alloc, &mut disk, &closed);
+    assert_same_at(rt, "blocks up to", last, fault_of(synced), None);
     assert_unchanged(rt, alloc, &mut disk, 3)
 }
 

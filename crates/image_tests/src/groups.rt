@@ -94,7 +94,9 @@ pub(crate) fn assert_holds(
     assert_same_at(rt, "the number of group", group, pool.sealed, group);
     let held = pool.slots.slots(alloc)?;
     assert_same_at(rt, "the slots of group", group, held.as_slice(), slots);
-    let found = pool.table.entries_found(alloc)?;
+    let found = pool.table.homes(alloc)?;
     assert_same_at(rt, "the homes of group", group, found.as_slice(), entries);
+    let counted = entries.iter().filter(|entry| entry.home.count > 0).count();
+    assert_same_at(rt, "the keys of group", group, pool.keys, counted as u64);
     Ok(())
 }

@@ -65,42 +65,71 @@ pub(crate) fn is_in_range(alloc: Global, pool: &Pool, closed: &Closed) -> Result
     Ok(blocks_within(closed.contents.as_slice(), sectors))
 }
 
+/// How many slots hold a pointer after a group. The error is want of memory.
+fn slots_then(alloc: Global, slots: &SlotMap, changes: &[SlotChange]) -> Result<u64, AllocError>
+    ensures { IfOk result (λ count. count ≡ length (slots_after changes.now slots.now)) }
+{
+    let listed = slots.slots(alloc)?;
+    let mut after = SlotMap::new(alloc);
+    after.hold_all(listed.as_slice())?;
+    set_slots(&mut after, changes)?;
+    Ok(after.len())
+}
+
 /// Whether no home that the table finds after a group counts more pointers than there are slots then. The
 /// error is want of memory.
 fn counts_within(alloc: Global, pool: &Pool, closed: &Closed) -> Result<bool, AllocError>
+    requires sorted { IsTable pool.now.table }
     ensures { IfOk result (λ within. within ≡ true → (key : Key) (home : Home)
         → found (sync_table closed.now.changes.items pool.now.table) key ≡ Some home
         → home.count ≤ length (slots_after closed.now.slots.items pool.now.slots)) }
 {
-    let slots = slots_after(alloc, &pool.slots, closed.slots.as_slice())?;
-    let table = pool.table.copied(alloc)?;
-    let table = table.sync_table(alloc, closed.changes.as_slice())?;
-    let within = table_counts(alloc, &table, slots.len())?;
-    Ok(within)
+    let most = slots_then(alloc, &pool.slots, closed.slots.as_slice())?;
+    table_counts(alloc, &pool.table, closed.changes.as_slice(), most)
 }
 
-/// Whether each home of a table counts at most so many pointers. The error is want of memory.
-fn table_counts(alloc: Global, table: &PlainTable, most: u64) -> Result<bool, AllocError>
-    ensures { IfOk result (λ within. within ≡ true → (key : Key) (home : Home) → found table.now key ≡ Some home → home.count ≤ most) }
+/// Whether each home of a table counts at most so many pointers after a group with these changes, which rise by key.
+/// The error is want of memory.
+fn table_counts(
+    alloc: Global,
+    table: &DedupTable,
+    changes: &[Change],
+    most: u64,
+) -> Result<bool, AllocError>
+    requires sorted { IsTable table.now.table }
+    ensures { IfOk result (λ within. within ≡ true → (key : Key) (home : Home)
+        → found (sync_table changes.now table.now.table) key ≡ Some home → home.count ≤ most) }
 {
-    let stored = table.zap.entries(alloc)?;
-    let flushing = table.flush.changes(alloc)?;
-    let active = table.active.changes(alloc)?;
-    if !entries_count(stored.as_slice(), most) {
+    let homes = table.homes(alloc)?;
+    if !are_rising(changes) {
         return Ok(false);
     }
-    if !changes_count(flushing.as_slice(), most) {
+    if !homes_count(homes.as_slice(), changes, most) {
         return Ok(false);
     }
-    Ok(changes_count(active.as_slice(), most))
+    Ok(changes_count(changes, most))
 }
 
-/// Whether each entry counts at most so many pointers.
-fn entries_count(entries: &[Entry], most: u64) -> bool
-    ensures { result ≡ true → AllByRecursion (λ entry. entry.home.count ≤ most) entries.now }
+/// Whether changes rise by key.
+fn are_rising(changes: &[Change]) -> bool
+    ensures { result ≡ true → AreChangesRising changes.now }
 {
-    'entries: for entry in entries {
-        if entry.home.count > most {
+    changes.is_sorted_by(|a, b| key_of(a) < key_of(b))
+}
+
+/// Whether a change names a key.
+fn is_changed(changes: &[Change], key: &Key) -> bool
+    ensures { result ≡ false → change_at key.now changes.now ≡ None }
+{
+    changes.iter().any(|change| key_of(change) == *key)
+}
+
+/// Whether each home that no change names counts at most so many pointers.
+fn homes_count(homes: &[Entry], changes: &[Change], most: u64) -> bool
+    ensures { result ≡ true → AllByRecursion (StaysAtMost most changes.now) homes.now }
+{
+    'homes: for entry in homes {
+        if entry.home.count > most && !is_changed(changes, &entry.key) {
             return false;
         }
     }

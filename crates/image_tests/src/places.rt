@@ -4,7 +4,6 @@ use crate::comparing::{assert_same, assert_same_at};
 use ddt_entry::{Key, Pointer, SlotKind};
 use grant_book::SectorSet;
 use page_tree::RecordList;
-use plain_table::PlainTable;
 use pool_model::{Block, StoredBlock};
 use slot_table::SlotRecord;
 use std::alloc::{AllocError, Global};
@@ -104,8 +103,8 @@ const SLOT: SlotRecord = SlotRecord {
 
 #[test]
 fn the_ring_the_pages_and_the_slots_are_used(rt: HostRuntime) -> Result<(), Fail> {
-    let table = PlainTable::new(rt.alloc());
-    let found = table.entries_found(rt.alloc())?;
+    let table = DedupTable::new(rt.alloc());
+    let found = table.homes(rt.alloc())?;
     let used = used_after(
         rt.alloc(),
         40,

@@ -29,24 +29,24 @@ impl Model for SoundPool {
 }
 
 impl SoundPool {
-    /// Syncs a group, which has to be in its ranges.
-    pub(crate) fn sync(
-        &mut self,
+    /// The pool once a group is synced, which has to be in its ranges. After a fault the pool in memory is gone.
+    pub(crate) fn synced(
+        self,
         rt: &impl Abort,
         alloc: Global,
         disk: &mut SilentDisk,
         closed: &Closed,
-    ) -> Result<u64, SyncFault> {
-        let Ok(within) = is_in_range(alloc, &self.pool, closed) else {
+    ) -> Result<SoundPool, SyncFault> {
+        let Ok(within) = is_in_range(alloc, &self, closed) else {
             return Err(SyncFault::Memory);
         };
         assert!(rt; within);
-        assert!(rt; self.pool.sealed < LAST_GROUP);
-        assert!(rt; self.pool.sectors <= disk.sectors());
-        match sync(alloc, &mut self.pool, disk, closed) {
-            Ok(number) => Ok(number),
-            Err(fault) => Err(fault),
-        }
+        let SoundPool { mut pool } = self;
+        assert!(rt; pool.sealed < LAST_GROUP);
+        assert!(rt; pool.sectors <= disk.sectors());
+        let number = sync(alloc, &mut pool, disk, closed)?;
+        assert!(rt; number == pool.sealed);
+        Ok(SoundPool { pool })
     }
 }
 
@@ -74,4 +74,12 @@ pub(crate) fn imported(
         return Err("no pool was found".into());
     };
     Ok(SoundPool { pool })
+}
+
+/// The fault of a sync that had one.
+pub(crate) fn fault_of(synced: Result<SoundPool, SyncFault>) -> Option<SyncFault> {
+    match synced {
+        Ok(_) => None,
+        Err(fault) => Some(fault),
+    }
 }

@@ -91,10 +91,12 @@ fn assert_counts_five(rt: &impl Abort, alloc: Global, sound: &SoundPool) -> Resu
 #[test]
 fn a_synced_pool_is_counted_by_its_slots_and_its_table(rt: HostRuntime) -> Result<(), Fail> {
     let alloc = rt.alloc();
-    let (mut disk, mut sound) = with_no_pointer(&rt, alloc)?;
+    let (mut disk, sound) = with_no_pointer(&rt, alloc)?;
     assert_counts_nothing(&rt, alloc, &sound)?;
     let closed = five_slots(alloc)?;
-    let answer = sound.sync(&rt, alloc, &mut disk, &closed);
-    assert_same(&rt, "the group", answer, Ok(2));
-    assert_counts_five(&rt, alloc, &sound)
+    let Ok(synced) = sound.synced(&rt, alloc, &mut disk, &closed) else {
+        return Err("the group isn't synced".into());
+    };
+    assert_same(&rt, "the group", synced.pool.sealed, 2);
+    assert_counts_five(&rt, alloc, &synced)
 }

@@ -14,7 +14,8 @@ use std::test::Fail;
 #[derive(Drop)]
 struct Filled {
     disk: SilentDisk,
-    pool: SoundPool,
+    /// The pool in memory, which goes on from sync to sync.
+    pool: Option<SoundPool>,
     slots: Vec<SlotRecord>,
     homes: Vec<Entry>,
 }
@@ -39,7 +40,7 @@ fn new_pool(rt: &impl Abort, alloc: Global) -> Result<Filled, Fail> {
     let pool = empty_on(rt, alloc, &mut disk)?;
     Ok(Filled {
         disk,
-        pool,
+        pool: Some(pool),
         slots: Vec::new(alloc),
         homes: Vec::new(alloc),
     })
@@ -70,8 +71,9 @@ fn put(
 ) -> Result<[u64; 3], Fail> {
     let closed = with_settings(alloc, group, slots, homes)?;
     note_group(filled, slots, homes)?;
-    sync_group(rt, alloc, filled, group, &closed);
-    assert_put(rt, alloc, filled, &filled.pool, group, pages)?;
+    let pool = sync_group(rt, alloc, filled, group, &closed)?;
+    assert_put(rt, alloc, filled, &pool, group, pages)?;
+    filled.pool = Some(pool);
     blocks_are_there(rt, &mut filled.disk, homes)?;
     import_put(rt, alloc, filled, &closed, group, pages)
 }
@@ -83,10 +85,22 @@ fn note_group(filled: &mut Filled, slots: &[SlotRecord], homes: &[Entry]) -> Res
     Ok(())
 }
 
-/// Syncs a group, which has to get this number.
-fn sync_group(rt: &impl Abort, alloc: Global, filled: &mut Filled, group: u64, closed: &Closed) {
-    let answer = filled.pool.sync(rt, alloc, &mut filled.disk, closed);
-    assert_same_at(rt, "the sync of group", group, answer, Ok(group));
+/// The pool once a group is synced, which has to get this number.
+fn sync_group(
+    rt: &impl Abort,
+    alloc: Global,
+    filled: &mut Filled,
+    group: u64,
+    closed: &Closed,
+) -> Result<SoundPool, Fail> {
+    let Some(before) = filled.pool.take() else {
+        return Err("there is no pool in memory".into());
+    };
+    let Ok(pool) = before.synced(rt, alloc, &mut filled.disk, closed) else {
+        return Err("a group isn't synced".into());
+    };
+    assert_same_at(rt, "the sync of group", group, pool.pool.sealed, group);
+    Ok(pool)
 }
 
 /// Imports the pool, which has to have all that was put in so far, and the settings of this group. The lengths are
@@ -108,7 +122,7 @@ fn import_put(
 /// How many entries the stored table of a pool has, and how many changes its flushing and its active log.
 fn lengths(sound: &SoundPool) -> [u64; 3] {
     let table = &sound.pool.table;
-    [table.zap.len(), table.flush.len(), table.active.len()]
+    [table.classes.len(), table.logs.len(1), table.logs.len(0)]
 }
 
 /// The group of these slots and entries, with settings that change from group to group.
@@ -268,7 +282,7 @@ fn assert_flushed(
 ) -> Result<(), Fail> {
     let last = imported(rt, alloc, &mut filled.disk)?;
     let table = &last.pool.table;
-    let stored = table.zap.entries(alloc)?;
+    let stored = table.classes.listed(alloc)?;
     assert_same(rt, "the table", stored.as_slice(), [home].as_slice());
     assert_same(rt, "the flushes", table.age, 1);
     Ok(())

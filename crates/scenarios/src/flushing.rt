@@ -50,15 +50,15 @@ const ONE_MORE: &str = "group 1000\n0 write 6000 ffff\nend\n";
 /// What a pool in memory keeps.
 fn kept_by(pool: &Pool) -> Row {
     let table = &pool.table;
-    let logs = &pool.logs;
+    let logs = &table.logs;
     [
         pool.sealed,
-        table.zap.len(),
-        table.flush.len(),
-        table.active.len(),
+        table.classes.len(),
+        logs.len(1),
+        logs.len(0),
         table.age,
-        logs.flushing.len() as u64,
-        logs.active.len() as u64,
+        logs.changes(1),
+        logs.changes(0),
         pool.pages.len(),
     ]
 }

@@ -6,3 +6,4 @@ pub mod Planning
 pub mod Syncing
 pub mod Placing
 pub mod SyncFaults
+pub mod TableSteps

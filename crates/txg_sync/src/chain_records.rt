@@ -6,15 +6,13 @@ ghost use Rattle.ddt_entry.specs.declared.entry.Change.TheVariants.{Entry as AnE
 ghost use Rattle.table_state.specs.Sealed.{entry_bytes, records_in};
 ghost use Rattle.table_state.specs.Spelling.{slot_bytes};
 ghost use Rattle.table_state.specs.Tables.{unique_in, duplicate_in};
-ghost use Rattle.plain_table.specs.Logged.{logged_of};
 
 use crate::fits::entries_fit;
 use ddt_entry::{Change, Entry, RECORD_BYTES, write_change};
 use page_tree::RecordList;
-use plain_table::LoggedPlainTable;
 use slot_table::SlotRecord;
 use std::alloc::{AllocError, Global};
-use table_state::write_slot;
+use table_state::{DedupTable, write_slot};
 
 /// The records of the five chains of a group: of its slots, of the unique and the duplicate entries of the
 /// stored table, of all changes of the active and of the flushing log. The stored homes are listed for it, which
@@ -22,17 +20,16 @@ use table_state::write_slot;
 pub fn records_of(
     alloc: Global,
     slots: &[SlotRecord],
-    kept: &LoggedPlainTable,
+    table: &DedupTable,
 ) -> Result<Vec<RecordList>, AllocError>
-    requires zap { All (λ entry. IsKeyLength entry.key.len) kept.now.table.zap }
-    requires active { All (λ change. IsKeyLength (key_in change).len) kept.now.logs.active }
-    requires flushing { All (λ change. IsKeyLength (key_in change).len) kept.now.logs.flushing }
-    ensures records { IfOk result (λ lists. map (λ list. list.items) lists.items ≡ records_in slots.now (logged_of kept.now)) }
-    ensures fit { OnOk result (AllByRecursion (λ entry. Fits (AnEntry entry)) kept.now.table.zap) }
+    requires zap { All (λ entry. IsKeyLength entry.key.len) table.now.table.zap }
+    requires active { All (λ change. IsKeyLength (key_in change).len) table.now.logs.active }
+    requires flushing { All (λ change. IsKeyLength (key_in change).len) table.now.logs.flushing }
+    ensures records { IfOk result (λ lists. map (λ list. list.items) lists.items ≡ records_in slots.now table.now) }
+    ensures fit { OnOk result (AllByRecursion (λ entry. Fits (AnEntry entry)) table.now.table.zap) }
 {
-    let table = &kept.table;
-    let logs = &kept.logs;
-    let stored = table.zap.entries(alloc)?;
+    let logs = &table.logs;
+    let stored = table.classes.listed(alloc)?;
     entries_fit(stored.as_slice());
     let duplicate = duplicate_in(Vec::from_slice(alloc, stored.as_slice())?);
     let unique = unique_in(stored);
@@ -40,8 +37,8 @@ pub fn records_of(
     lists.push(slot_records(alloc, slots)?)?;
     lists.push(entry_records(alloc, unique.as_slice())?)?;
     lists.push(entry_records(alloc, duplicate.as_slice())?)?;
-    lists.push(change_records(alloc, logs.active.as_slice())?)?;
-    lists.push(change_records(alloc, logs.flushing.as_slice())?)?;
+    lists.push(change_records(alloc, logs.kept(0))?)?;
+    lists.push(change_records(alloc, logs.kept(1))?)?;
     Ok(lists)
 }
 

@@ -15,13 +15,12 @@ ghost use Rattle.txg_sync.specs.FirstSeal.{SameOutside};
 use crate::begin::seal_new_pool;
 use crate::syncing::told;
 use disk_model::{Disk, crash_laws};
-use grant_book::SectorSet;
+use grant_book::{GrantBook, SectorSet};
 use page_tree::SectorList;
-use plain_table::{KeptLogs, PlainTable};
 use pool_model::{Mode, SyncFault};
 use slot_table::SlotMap;
 use std::alloc::{AllocError, Global};
-use table_state::Pool;
+use table_state::{DedupTable, Pool};
 
 /// The empty pool of group 1. The error is want of memory.
 fn new_pool(alloc: Global, tag: u8, sectors: u64) -> Result<Pool, AllocError>
@@ -30,10 +29,10 @@ fn new_pool(alloc: Global, tag: u8, sectors: u64) -> Result<Pool, AllocError>
 {
     Ok(Pool {
         slots: SlotMap::new(alloc),
-        table: PlainTable::new(alloc),
-        logs: KeptLogs::new(alloc),
+        table: DedupTable::new(alloc),
+        keys: 0,
         pages: SectorList::new(alloc),
-        used: SectorSet::with_ring(alloc, sectors)?,
+        book: GrantBook::of_used(SectorSet::with_ring(alloc, sectors)?),
         modes: [Mode::On; 16],
         limit: None,
         tag,

@@ -7,7 +7,7 @@ ghost use Rattle.ddt_entry.specs.declared.entry.Change.TheVariants.{Entry as AnE
 ghost use Rattle.table_state.specs.Spelling.{FitsSlot};
 
 use ddt_entry::{Change, Entry, Home};
-use plain_table::KeptLogs;
+use log_pair::LogPair;
 use slot_table::SlotRecord;
 use table_state::{key_fits, slot_fits};
 
@@ -21,12 +21,12 @@ pub fn slots_fit(slots: &[SlotRecord])
 }
 
 /// The changes of logs that code has in hand fit.
-pub fn logs_fit(logs: &KeptLogs)
-    ensures active { AllByRecursion Fits logs.now.active }
-    ensures flushing { AllByRecursion Fits logs.now.flushing }
+pub fn logs_fit(logs: &LogPair)
+    ensures active { AllByRecursion Fits logs.now.logs.active }
+    ensures flushing { AllByRecursion Fits logs.now.logs.flushing }
 {
-    changes_fit(logs.active.as_slice());
-    changes_fit(logs.flushing.as_slice());
+    changes_fit(logs.kept(0));
+    changes_fit(logs.kept(1));
 }
 
 /// Entries that code has in hand fit.

@@ -4,13 +4,11 @@ ghost use Rattle.page_tree.specs.declared.pointer.PagePtr.{PagePtr};
 ghost use Rattle.pool_model.specs.Table.{entries_found};
 ghost use Rattle.table_state.specs.Spelling.{mode_byte};
 ghost use Rattle.table_state.specs.Sealed.{flag_of, quota_number, checkpoint_len, checkpoint_digest, seal_of};
-ghost use Rattle.plain_table.specs.Logged.{logged_of};
 
 use ddt_entry::{Entry, Key};
 use page_tree::PagePtr;
-use plain_table::LoggedPlainTable;
 use pool_model::Mode;
-use table_state::{IMAGE_VERSION, byte_of};
+use table_state::{DedupTable, IMAGE_VERSION, byte_of};
 use uber_ring::Seal;
 
 /// The seal of a group whose table finds these homes, before its roots are known: the settings, the state of the
@@ -21,19 +19,19 @@ pub fn seal_of(
     group: u64,
     modes: &[Mode; 16],
     quota: Option<u64>,
-    kept: &LoggedPlainTable,
+    table: &DedupTable,
     found: &[Entry],
     pages: u64,
 ) -> Seal
-    requires found { found.now ≡ entries_found kept.now.table }
-    requires few { length (entries_found kept.now.table) ≤ 2 ^ 40 }
-    requires counts { All (λ entry. entry.home.count ≤ 1048576) (entries_found kept.now.table) }
+    requires found { found.now ≡ entries_found table.now.table }
+    requires few { length (entries_found table.now.table) ≤ 2 ^ 40 }
+    requires counts { All (λ entry. entry.home.count ≤ 1048576) (entries_found table.now.table) }
     ensures fields { (roots : List PagePtr)
-        → record result { pointers = roots ++ null_pointer ∷ [] } ≡ seal_of tag sectors group modes.now quota (logged_of kept.now) roots pages }
+        → record result { pointers = roots ++ null_pointer ∷ [] } ≡ seal_of tag sectors group modes.now quota table.now roots pages }
     ensures pointers { result.pointers ≡ replicate 6 null_pointer }
 {
-    let table = &kept.table;
-    let logs = &kept.logs;
+    let logs = &table.logs;
+    let checkpoint = logs.checkpoint();
     Seal {
         version: IMAGE_VERSION,
         tag: tag as u32,
@@ -43,11 +41,11 @@ pub fn seal_of(
         quota_flag: quota_flag(quota),
         modes: mode_bytes(modes),
         age: table.age,
-        active_changes: logs.active.len() as u64,
-        flushing_changes: logs.flushing.len() as u64,
-        checkpoint_flag: checkpoint_flag(table.checkpoint),
-        checkpoint_len: checkpoint_len(table.checkpoint),
-        checkpoint_digest: checkpoint_digest(table.checkpoint),
+        active_changes: logs.changes(0),
+        flushing_changes: logs.changes(1),
+        checkpoint_flag: checkpoint_flag(checkpoint),
+        checkpoint_len: checkpoint_len(checkpoint),
+        checkpoint_digest: checkpoint_digest(checkpoint),
         pointers: [PagePtr::NULL; 6],
         homes: counted_in(found),
         counts: sum_of_counts(found),

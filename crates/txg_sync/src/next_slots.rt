@@ -1,21 +1,17 @@
-ghost use Rattle.std.specs.Prelude.{◌≡◌, IfOk};
+ghost use Rattle.std.specs.Prelude.{◌≡◌, OnOk};
 ghost use Rattle.table_state.specs.Pools.{slots_after};
 
 use pool_model::SlotChange;
 use slot_table::SlotMap;
-use std::alloc::{AllocError, Global};
+use std::alloc::AllocError;
 
-/// The slots after these changes: of the changes of one slot the last counts. The error is want of memory.
-pub fn slots_after(
-    alloc: Global,
-    slots: &SlotMap,
-    changes: &[SlotChange],
-) -> Result<SlotMap, AllocError>
-    ensures { IfOk result (λ after. after ≡ slots_after changes.now slots.now) }
+/// Changes slots in place: of the changes of one slot the last counts. The error is want of memory; the slots are then
+/// given up.
+pub fn set_slots(slots: &mut SlotMap, changes: &[SlotChange]) -> Result<(), AllocError>
+    ensures { OnOk result (slots.new ≡ slots_after changes.now slots.old) }
 {
-    let mut after = slots.copied(alloc)?;
     'changes: for change in changes {
-        after.set(change)?;
+        slots.set(change)?;
     }
-    Ok(after)
+    Ok(())
 }

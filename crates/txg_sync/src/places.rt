@@ -81,20 +81,19 @@ fn mark_blocks(used: &mut SectorSet, contents: &[StoredBlock])
 /// pages. The error is want of memory.
 pub fn place_chains(
     alloc: Global,
-    used: &SectorSet,
+    mut used: SectorSet,
     contents: &[StoredBlock],
     lists: Vec<RecordList>,
 ) -> Result<Option<Vec<ChainPages>>, AllocError>
-    requires ring { (sector : ℕ) → sector < 32 → slice_index_or used.now sector true ≡ true }
-    ensures placed { IfOk result (λ found. IfSome found (λ parts. ArePlaced used.now (map stored_of contents.now) (map (λ records. records.items) lists.items) parts.items)) }
-    ensures room { IfOk result (λ found. IfNone found (LacksRoom used.now (map stored_of contents.now) (map (λ records. records.items) lists.items))) }
+    requires ring { (sector : ℕ) → sector < 32 → slice_index_or used sector true ≡ true }
+    ensures placed { IfOk result (λ found. IfSome found (λ parts. ArePlaced used (map stored_of contents.now) (map (λ records. records.items) lists.items) parts.items)) }
+    ensures room { IfOk result (λ found. IfNone found (LacksRoom used (map stored_of contents.now) (map (λ records. records.items) lists.items))) }
 {
-    let mut taken = used.copied(alloc)?;
-    mark_blocks(&mut taken, contents);
-    let Some(pages) = pages_within(lists.as_slice(), taken.free()) else {
+    mark_blocks(&mut used, contents);
+    let Some(pages) = pages_within(lists.as_slice(), used.free()) else {
         return Ok(None);
     };
-    let Some(places) = taken.free_places(alloc, pages)? else {
+    let Some(places) = used.free_places(alloc, pages)? else {
         return Ok(None);
     };
     let parts = share_out(alloc, lists, places.as_slice())?;

@@ -1,4 +1,4 @@
-ghost use Rattle.std.specs.Prelude.{◌≡◌, ◌≤◌, ◌+◌, ℕ, List, Some, None, length, IfOk, OnOk, OnErr, IsErrOf};
+ghost use Rattle.std.specs.Prelude.{◌≡◌, ◌≤◌, ◌+◌, ℕ, List, Some, None, length, IfOk, OnOk, IsErrOf};
 ghost use Rattle.disk_model.specs.Images.{Image};
 ghost use Rattle.disk_model.specs.DiskLaws.{Stays};
 ghost use Rattle.disk_model.specs.Crashes.{LeavesOnly, NothingPending};
@@ -20,11 +20,12 @@ use crate::planning::{Plan, plan_group};
 use disk_model::{Disk, crash_laws};
 use pool_model::{Closed, SyncFault};
 use std::alloc::Global;
+use std::snapshot::Snapshot;
 use table_state::Pool;
 
 /// Syncs a group that was closed, behind the newest sealed one: plans it, and seals it. Answers the number of
-/// the group, of which `pool` is the pool from then on; after a fault `pool` is as it was, and what the disk
-/// holds is to be imported again. `Memory` and `Damaged` come before anything is written; `Damaged` comes only over
+/// the group, of which `pool` is the pool from then on; after a fault `pool` is given up, and what the disk
+/// holds is to be imported. `Memory` and `Damaged` come before anything is written; `Damaged` comes only over
 /// a disk that doesn't tell its contents, where fewer sectors are free than the group's pages need. `WriteFault`
 /// comes before the gate of the group's seal is written, `GateFault` from then on.
 pub fn sync<D: Disk>(
@@ -45,7 +46,6 @@ pub fn sync<D: Disk>(
     ensures synced { OnOk result (Syncs (D.state disk.old).seen pool.old (closed_of closed.now) pool.new (D.state disk.new).seen) }
     ensures pages { OnOk result (length pool.new.pages ≡ pages_of (records_after pool.old (closed_of closed.now))) }
     ensures next { OnOk result (IsSound pool.new) }
-    ensures kept { OnErr result (pool.new ≡ pool.old) }
     ensures durable { OnOk result (NothingPending (D.state disk.new).seen (D.state disk.new).may_leave) }
     ensures any_moment { (image : Image) (s : Standing) → (D.state disk.old).seen ≡ Some image
         → NothingPending (Some image) (D.state disk.old).may_leave → StandsOver image pool.old s
@@ -69,47 +69,48 @@ pub fn sync<D: Disk>(
 {
     crash_laws(disk);
     let _sectors = disk.sectors();
-    let Ok(planned) = plan_group(alloc, pool, closed) else {
+    let before = Snapshot::of(pool);
+    let Ok(planned) = plan_group(alloc, pool, disk, closed) else {
         return Err(SyncFault::Memory);
     };
     let Some(planned) = planned else {
         return Err(SyncFault::Damaged(0));
     };
-    write_plan(pool, disk, closed, planned)
+    write_plan(pool, before, disk, closed, &planned)
 }
 
-/// Writes what was planned.
+/// Writes what was planned for the pool that stood before, which makes it this one.
 fn write_plan<D: Disk>(
-    pool: &mut Pool,
+    pool: &Pool,
+    before: Snapshot<Pool>,
     disk: &mut D,
     closed: &Closed,
-    planned: Plan,
+    planned: &Plan,
 ) -> Result<u64, SyncFault>
-    requires sound { IsSound pool.old }
-    requires range { IsInRange pool.old (closed_of closed.now) }
-    requires last { pool.old.group + 1 ≤ last_group }
-    requires on_disk { pool.old.sectors ≤ (D.state disk.old).sectors }
-    requires over { CanSyncOver (D.state disk.old).seen pool.old (closed_of closed.now) }
-    requires planned { IsPlan pool.old (closed_of closed.now) planned.next planned.parts.items planned.seal }
+    requires sound { IsSound before.value }
+    requires range { IsInRange before.value (closed_of closed.now) }
+    requires last { before.value.group + 1 ≤ last_group }
+    requires on_disk { before.value.sectors ≤ (D.state disk.old).sectors }
+    requires over { CanSyncOver (D.state disk.old).seen before.value (closed_of closed.now) }
+    requires planned { IsPlan before.value (closed_of closed.now) pool.now planned.now.parts.items planned.now.seal }
     ensures sectors { (D.state disk.new).sectors ≡ (D.state disk.old).sectors }
-    ensures number { IfOk result (λ number. (number ≡ pool.old.group + 1) × (number ≡ pool.new.group)) }
-    ensures made { OnOk result (IsNext pool.old (closed_of closed.now) pool.new.pages pool.new) }
-    ensures size { OnOk result ((pool.new.sectors ≡ pool.old.sectors) × (pool.new.tag ≡ pool.old.tag)) }
-    ensures synced { OnOk result (Syncs (D.state disk.old).seen pool.old (closed_of closed.now) pool.new (D.state disk.new).seen) }
-    ensures pages { OnOk result (length pool.new.pages ≡ pages_of (records_after pool.old (closed_of closed.now))) }
-    ensures next { OnOk result (IsSound pool.new) }
-    ensures kept { OnErr result (pool.new ≡ pool.old) }
+    ensures number { IfOk result (λ number. (number ≡ before.value.group + 1) × (number ≡ pool.now.group)) }
+    ensures made { OnOk result (IsNext before.value (closed_of closed.now) pool.now.pages pool.now) }
+    ensures size { OnOk result ((pool.now.sectors ≡ before.value.sectors) × (pool.now.tag ≡ before.value.tag)) }
+    ensures synced { OnOk result (Syncs (D.state disk.old).seen before.value (closed_of closed.now) pool.now (D.state disk.new).seen) }
+    ensures pages { OnOk result (length pool.now.pages ≡ pages_of (records_after before.value (closed_of closed.now))) }
+    ensures next { OnOk result (IsSound pool.now) }
     ensures durable { OnOk result (NothingPending (D.state disk.new).seen (D.state disk.new).may_leave) }
     ensures any_moment { (image : Image) (s : Standing) → (D.state disk.old).seen ≡ Some image
-        → NothingPending (Some image) (D.state disk.old).may_leave → StandsOver image pool.old s
-        → (pages : List ℕ) × (length pages ≡ pages_of (records_after pool.old (closed_of closed.now)))
-        × OnOk result (pages ≡ pool.new.pages)
-        × LeavesOnly (D.state disk.old) (D.state disk.new) (SyncLeaves image pool.old (closed_of closed.now) s pages) }
+        → NothingPending (Some image) (D.state disk.old).may_leave → StandsOver image before.value s
+        → (pages : List ℕ) × (length pages ≡ pages_of (records_after before.value (closed_of closed.now)))
+        × OnOk result (pages ≡ pool.now.pages)
+        × LeavesOnly (D.state disk.old) (D.state disk.new) (SyncLeaves image before.value (closed_of closed.now) s pages) }
     ensures before_the_gate { (image : Image) (s : Standing) → (D.state disk.old).seen ≡ Some image
-        → NothingPending (Some image) (D.state disk.old).may_leave → StandsOver image pool.old s → IsErrOf result WriteFault
-        → LeavesOnly (D.state disk.old) (D.state disk.new) (BeforeGate image pool.old s) }
+        → NothingPending (Some image) (D.state disk.old).may_leave → StandsOver image before.value s → IsErrOf result WriteFault
+        → LeavesOnly (D.state disk.old) (D.state disk.new) (BeforeGate image before.value s) }
     ensures at_the_gate { IsErrOf result GateFault
-        → StopsAtGate (D.state disk.old).seen pool.old (closed_of closed.now) (D.state disk.new).seen }
+        → StopsAtGate (D.state disk.old).seen before.value (closed_of closed.now) (D.state disk.new).seen }
     ensures device { IsErrOf result Memory → ⊥ }
     ensures whole { (sector : ℕ) → IsErrOf result (Damaged sector) → ⊥ }
     ensures unread { IsErrOf result ReadFault → Stays (D.state disk.old).seen (D.state disk.new).seen }
@@ -121,15 +122,14 @@ fn write_plan<D: Disk>(
     ensures gate_cause { IsErrOf result GateFault → Rose (D.state disk.old).write_faults (D.state disk.new).write_faults }
 {
     let _sectors = disk.sectors();
-    let Plan { next, parts, seal } = planned;
-    logs_fit(&next.logs);
-    let sealed = seal_group(disk, &seal, closed.contents.as_slice(), parts.as_slice());
+    let table = &pool.table;
+    logs_fit(&table.logs);
+    let parts = planned.parts.as_slice();
+    let sealed = seal_group(disk, &planned.seal, closed.contents.as_slice(), parts);
     if let Err(fault) = sealed {
         return Err(told(fault));
     }
-    let number = next.sealed;
-    *pool = next;
-    Ok(number)
+    Ok(pool.sealed)
 }
 
 /// The fault of a sync that a fault of its sealing is.

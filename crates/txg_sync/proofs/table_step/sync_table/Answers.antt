@@ -1,0 +1,18 @@
+-- The three calls are the three steps.
+use Rattle.std.proofs.Common.{◌∙◌, sym, ap, subst}
+use Rattle.log_flush.specs.Flushing.{IsSecondStep}
+use Rattle.pool_model.specs.Replaying.{LoggedTable, sync_logged}
+use Rattle.pool_model.specs.Table.{flush_limit}
+use Rattle.table_state.specs.Kept.{kept_in}
+use Rattle.txg_sync.proofs.TableSteps.{stepped}
+use Rattle.txg_sync.proofs.table_step.sync_table.Goals as goal
+
+pub returns : goal.returns
+returns g c =
+    let before : LoggedTable = kept_in c.table.inside.classes c.table.inside.logs c.table.inside.age in
+    c.swap_due-table-inside.ensures c.flush_some.new.classes
+    ∙ stepped c.args.changes.now before.table before.logs c.append_all.new.logs c.flush_some.new.logs c.flush_some.new.classes
+    c.in_ok-append_all.ensures
+    (subst (λ n. IsSecondStep n c.table.inside.classes c.append_all.new.logs c.flush_some.new.classes c.flush_some.new.logs)
+    (c.flush_limit-limit.ensures.count ∙ ap (λ (k : LoggedTable). flush_limit k.table) (sym c.table.view_is)) c.in_ok-flush_some.ensures)
+    ∙ ap (sync_logged c.args.changes.now) c.table.view_is

@@ -1,0 +1,93 @@
+//! The sync of a pool's table: a group's changes go to the active log, some of the flushing log comes to the stored
+//! homes, and the logs are swapped where that is due. The table is changed in place.
+
+ghost use Rattle.std.specs.Prelude.{◌≡◌, ◌<◌, [], List, fold, OnOk};
+ghost use Rattle.ddt_entry.specs.declared.entry.Entry.{Entry as Stored};
+ghost use Rattle.log_flush.specs.Flushing.{IsSecondStep};
+ghost use Rattle.log_pair.specs.Paired.{with_change, as_table};
+ghost use Rattle.pool_model.specs.Table.{is_due};
+ghost use Rattle.pool_model.specs.Replaying.{sync_logged};
+ghost use Rattle.table_state.specs.Kept.{kept_in};
+ghost use Rattle.txg_sync.specs.TableSteps.{third_step};
+
+use ddt_class::Classes;
+use ddt_entry::Change;
+use disk_model::Disk;
+use log_flush::flush;
+use log_pair::LogPair;
+use page_tree::NoPages;
+use plain_table::{SWAP_AGE, SWAP_KEYS};
+use std::alloc::{AllocError, Global};
+use table_state::DedupTable;
+
+/// The table after a group with these changes, in the place of the one before. No sector is read, since the table is
+/// held in memory. The error is want of memory; the table is then given up.
+pub fn sync_table<D: Disk>(
+    alloc: Global,
+    table: &mut DedupTable,
+    disk: &D,
+    changes: &[Change],
+) -> Result<(), AllocError>
+    ensures { OnOk result (table.new ≡ sync_logged changes.now table.old) }
+{
+    let limit = table.flush_limit();
+    append_all(&mut table.logs, disk, changes)?;
+    flush_some(alloc, &mut table.classes, &mut table.logs, disk, limit)?;
+    table.age = swap_due(&mut table.logs, table.age);
+    Ok(())
+}
+
+/// First step: each change goes to the active log, and its key leaves the flushing one. The error is want of memory.
+fn append_all<D: Disk>(logs: &mut LogPair, disk: &D, changes: &[Change]) -> Result<(), AllocError>
+    ensures { OnOk result (logs.new ≡ fold (λ pair change. with_change change pair) logs.old changes.now) }
+{
+    let mut reader = NoPages::new();
+    'changes: for change in changes {
+        let Ok(()) = logs.append(disk, &mut reader, *change) else {
+            return Err(AllocError);
+        };
+    }
+    Ok(())
+}
+
+/// Second step: the first so many changes of the flushing log come to the stored homes. The error is want of memory.
+fn flush_some<D: Disk>(
+    alloc: Global,
+    classes: &mut Classes,
+    logs: &mut LogPair,
+    disk: &D,
+    limit: u64,
+) -> Result<(), AllocError>
+    requires some { 0 < limit }
+    ensures { OnOk result (IsSecondStep limit classes.old logs.old classes.new logs.new) }
+{
+    let mut reader = NoPages::new();
+    let Ok(_places) = flush(alloc, classes, logs, disk, &mut reader, limit) else {
+        return Err(AllocError);
+    };
+    Ok(())
+}
+
+/// Third step: the active log, which has grown for so many groups, is a group older, and becomes the flushing one where
+/// it is due. Answers its age then, which stops at the end of its type.
+fn swap_due(logs: &mut LogPair, age: u64) -> u64
+    requires emptied { logs.old.flush ≡ [] → logs.old.logs.flushing ≡ [] }
+    ensures { (zap : List Stored) → kept_in zap logs.new result ≡ third_step (kept_in zap logs.old age) }
+{
+    let aged = age.saturating_add(1);
+    if !is_due(logs, aged) {
+        return aged;
+    }
+    logs.swap();
+    0
+}
+
+/// Whether an active log of this age has to be flushed and can be.
+fn is_due(logs: &LogPair, age: u64) -> bool
+    ensures { result ≡ is_due (record (as_table logs.now) { age = age }) }
+{
+    if logs.len(1) != 0 || logs.len(0) == 0 {
+        return false;
+    }
+    logs.len(0) >= SWAP_KEYS || age >= SWAP_AGE
+}
