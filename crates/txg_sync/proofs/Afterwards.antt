@@ -1,5 +1,5 @@
 -- What an image stands for once a group's gate is open.
-use Rattle.std.proofs.Common.{◌≡◌, ℕ, zero, suc, ◌+◌, ◌^◌, ◌≤◌, Bool, true, false, ◌||◌, ◌==◌, List, [], ◌∷◌, Some, length, map, refl, sym, ap, subst, ◌∙◌, ⊎_elim, arith}
+use Rattle.std.proofs.Common.{◌≡◌, ℕ, zero, suc, ◌+◌, ◌^◌, ◌≤◌, Bool, true, false, replicate, ◌||◌, ◌==◌, List, [], ◌∷◌, Some, length, map, refl, sym, ap, subst, ◌∙◌, ⊎_elim, arith}
 use Rattle.std.proofs.lemmas.Bool.Decides.{eqb_tells}
 use Rattle.pool_model.proofs.Lists.{all_from, all_from_both}
 use Rattle.std.specs.Prelude.{slice_index_or, take}
@@ -16,7 +16,7 @@ use Rattle.page_tree.specs.ChainWrites.{AreOpen}
 use Rattle.pool_model.specs.Pool.{Pool, Pointer, Pairwise}
 use Rattle.pool_model.specs.Mirrors.{Stored}
 use Rattle.pool_model.specs.Space.{is_used, used_sectors}
-use Rattle.pool_model.specs.Table.{TableState, found, waiting_in, IsTable}
+use Rattle.pool_model.specs.Table.{TableState, found, waiting_in, IsTable, counted_homes}
 use Rattle.slot_table.specs.Slots.{stands_before}
 use Rattle.table_state.specs.Flat.{Flat, StandsFor, IsClear, IsWithin, IsChangeWithin, pointer_of, logs_in}
 use Rattle.table_state.specs.Holding.{Holds, WaitingStand}
@@ -88,11 +88,11 @@ pub same_kept : (table table' : TableState) (logs logs' : Logs) → table ≡ ta
 same_kept table table' logs logs' et el = cc
 
 -- a pool in memory that agrees with what an image stands for
-made_held : (c : Image) (next : Held) (pool : Pool) (table : TableState) (tag : ℕ) → next.tag ≡ tag → (state : StandsFor tag c pool table)
+made_held : (c : Image) (next : Held) → IsSound next → (pool : Pool) (table : TableState) (tag : ℕ) → next.tag ≡ tag → (state : StandsFor tag c pool table)
     → next.slots ≡ state.flat.slots → next.logs ≡ logs_in state.flat → next.pages ≡ state.flat.named → next.sectors ≡ state.seal.sectors
     → next.table ≡ table → next.used ≡ used_sectors next.sectors next.pages pool table → next.modes ≡ pool.modes → next.quota ≡ pool.quota
     → next.group ≡ pool.group → IsHeld c next pool table
-made_held c next pool table tag same =
+made_held c next sound pool table tag same =
     subst
     (λ t. (state : StandsFor t c pool table) → next.slots ≡ state.flat.slots → next.logs ≡ logs_in state.flat
     → next.pages ≡ state.flat.named → next.sectors ≡ state.seal.sectors
@@ -104,6 +104,9 @@ made_held c next pool table tag same =
       slots_are = slots;
       table_is = tables;
       logs_are = logs;
+      keys_are = sound.keys_are ∙ ap (λ (t : TableState). length (counted_homes t)) tables;
+      keys_few = sound.keys_few;
+      settled = sound.settled;
       pages_are = pages;
       used_are = used;
       modes_are = modes;
@@ -160,6 +163,9 @@ module _ (held : Held) (closed : PlainClosed) (sound : IsSound held) (range : Is
     few = subst (λ n. n ≤ 1000000) (sym plan.is_next.sectors_are) sound.few;
     first = omega (arith, plan.is_next.group_is);
     last = subst (λ n. n ≤ last_group) (sym plan.is_next.group_is) last;
+    settled = plan.is_next.pending_are ∙ ap (λ n. replicate n false) (sym plan.is_next.sectors_are);
+    keys_are = plan.is_next.keys_are;
+    keys_few = plan.keys_few;
     used_len =
         ap length plan.is_next.used_are ∙ length-map (range_with_len 0 held.sectors) (is_used (places_in parts) bare next.table)
         ∙ length-range_with_len 0 held.sectors ∙ sym plan.is_next.sectors_are;
@@ -328,7 +334,7 @@ module _ (held : Held) (closed : PlainClosed) (sound : IsSound held) (range : Is
       -- and the pool in memory is that one
       pub held_after : IsHeld c next pool' table'
       held_after =
-          made_held c next pool' table' held.tag plan.is_next.tag_is stands_after
+          made_held c next sound_after pool' table' held.tag plan.is_next.tag_is stands_after
           (plan.is_next.slots_are ∙ ap (λ (f : Flat). f.slots) (sym kept_flat))
           (plan.is_next.logs_are ∙ ap logs_in (sym kept_flat))
           (plan.is_next.pages_are ∙ ap (λ (f : Flat). f.named) (sym kept_flat))

@@ -1,5 +1,5 @@
 -- The parts of a plan are what a group leaves.
-use Rattle.std.proofs.Common.{◌≡◌, ℕ, ◌+◌, true, List, [], ◌∷◌, ◌++◌, length, sym, ap, subst, ◌∙◌, arith}
+use Rattle.std.proofs.Common.{◌≡◌, ℕ, ◌+◌, true, replicate, List, [], ◌∷◌, ◌++◌, length, sym, ap, subst, ◌∙◌, arith}
 use Rattle.std.specs.List.{AllByRecursion}
 use Rattle.ddt_entry.specs.Spelling.{Fits, IsKeyLength}
 use Rattle.ddt_entry.specs.declared.entry.Change.TheVariants.{Entry as AnEntry}
@@ -7,7 +7,7 @@ use Rattle.page_tree.specs.Pointers.{null_pointer}
 use Rattle.page_tree.specs.declared.pointer.PagePtr.{PagePtr}
 use Rattle.uber_ring.specs.declared.seal.Seal.{Seal}
 use Rattle.pool_model.specs.Space.{used_sectors}
-use Rattle.pool_model.specs.Table.{TableState}
+use Rattle.pool_model.specs.Table.{TableState, counted_homes}
 use Rattle.table_state.specs.Spelling.{FitsSlot}
 use Rattle.table_state.specs.Pools.{Held, slots_after, pool_after}
 use Rattle.table_state.specs.Sealed.{ChainPart, places_in, records_in, seal_of}
@@ -56,14 +56,17 @@ pub is_plan : (held : Held) (closed : PlainClosed) (slots : List SlotRecord) (ke
     (records_in slots kept) parts → pages ≡ places_in parts
     → ((roots : List PagePtr) → record seal { pointers = roots ++ null_pointer ∷ [] } ≡ seal_of held.tag held.sectors (held.group + 1)
     closed.modes closed.quota kept roots (length pages))
+    → seal.pointers ≡ replicate 6 null_pointer
     → IsMadeOf held closed slots kept pages next → AllByRecursion FitsSlot slots → AllByRecursion (λ entry. Fits (AnEntry entry)) kept.table.zap
     → IsPlan held closed next parts seal
-is_plan held closed slots kept parts pages seal next slots_are kept_is placed pages_are seal_is made slots_fit fit = record {
+is_plan held closed slots kept parts pages seal next slots_are kept_is placed pages_are seal_is null made slots_fit fit = record {
   is_next = record {
     slots_are = made.slots_are ∙ slots_are;
     table_is = ap (λ (k : LoggedTable). k.table) (made.kept_is ∙ kept_is);
     logs_are = ap (λ (k : LoggedTable). k.logs) (made.kept_is ∙ kept_is);
+    keys_are = made.keys_are ∙ ap (λ (k : LoggedTable). length (counted_homes k.table)) (sym made.kept_is);
     pages_are = made.pages_are ∙ pages_are;
+    pending_are = made.pending_are;
     used_are =
         made.used_are closed.modes closed.quota (held.group + 1)
         ∙ ap (λ (ps : List ℕ). used_sectors held.sectors ps (pool_after [] [] slots kept.table closed.modes closed.quota (held.group + 1)) kept.table)
@@ -78,6 +81,8 @@ is_plan held closed slots kept parts pages seal next slots_are kept_is placed pa
     group_is = made.group_is;
     sectors_are = made.sectors_are;
   };
+  keys_few = made.keys_few;
+  null = null;
   slots_fit = subst (λ (s : List SlotRecord). AllByRecursion FitsSlot s) (sym made.slots_are) slots_fit;
   zap_fits = subst (λ (k : LoggedTable). AllByRecursion (λ entry. Fits (AnEntry entry)) k.table.zap) (sym made.kept_is) fit;
   placed =
