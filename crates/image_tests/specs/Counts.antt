@@ -1,5 +1,8 @@
 -- How many pointers a change leaves its key, and a home that no change names.
-use Rattle.std.specs.Prelude.{◌≡◌, ⊤, ℕ, ◌≤◌, List, None}
+use Rattle.std.specs.Prelude.{◌≡◌, ⊤, ℕ, Bool, ◌≤◌, List, None}
+use Rattle.std.specs.Ordering.{is_lt}
+use Rattle.ddt_entry.specs.Changes.{key_in}
+use Rattle.ddt_entry.specs.Keys.{key_cmp}
 use Rattle.ddt_entry.specs.declared.entry.Change.{Change}
 use Rattle.ddt_entry.specs.declared.entry.Change.TheVariants as changes
 use Rattle.ddt_entry.specs.declared.entry.Entry.{Entry}
@@ -13,3 +16,7 @@ LeavesAtMost most (changes.Gone key) = ⊤
 -- a home that no change names counts at most so many
 abbrev pub StaysAtMost : (most : ℕ) → (log : List Change) → Entry → Type 0
 StaysAtMost most log entry = change_at entry.key log ≡ None → entry.home.count ≤ most
+
+-- a change's key comes before another's
+abbrev pub has_lower : Change → Change → Bool
+has_lower a b = is_lt (key_cmp (key_in a) (key_in b))

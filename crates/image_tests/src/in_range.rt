@@ -1,11 +1,13 @@
 //! Whether a group is in its ranges: the premise of a sync on the numbers of its group, as a test.
 
-ghost use Rattle.std.specs.Prelude.{◌≡◌, ◌≤◌, ◌<◌, true, length, map, Some, IfOk};
+ghost use Rattle.std.specs.Prelude.{◌≡◌, ◌≤◌, ◌<◌, true, false, length, map, Some, None, IfOk};
 ghost use Rattle.std.specs.List.{AllByRecursion};
 ghost use Rattle.ddt_entry.specs.declared.entry.Home.{Home};
-ghost use Rattle.ddt_entry.specs.declared.key.Key.{Key};
+ghost use Rattle.ddt_entry.specs.declared.key.Key.{Key as AKey};
 ghost use Rattle.pool_model.specs.Mirrors.{stored_of};
-ghost use Rattle.pool_model.specs.Table.{found, sync_table};
+ghost use Rattle.pool_import.specs.Together.{follows, rises};
+ghost use Rattle.pool_model.specs.Table.{IsTable, change_at, found, sync_table};
+ghost use Rattle.slot_table.specs.Slots.{AreRisingSlots};
 ghost use Rattle.table_state.specs.Flat.{IsWithin, IsChangeWithin};
 ghost use Rattle.table_state.specs.Sealed.{ChangesSlotWithin};
 ghost use Rattle.table_state.specs.SlotRecords.{is_slot};
@@ -13,15 +15,15 @@ ghost use Rattle.table_state.specs.Spelling.{FitsSlot};
 ghost use Rattle.table_state.specs.Tables.{HasLength};
 ghost use Rattle.table_state.specs.Closing.{closed_of, IsInRange};
 ghost use Rattle.table_state.specs.Pools.{slots_after};
-ghost use Rattle.image_tests.specs.Counts.{LeavesAtMost};
+ghost use Rattle.table_state.specs.Sound.{IsSound};
+ghost use Rattle.image_tests.specs.Counts.{LeavesAtMost, StaysAtMost, has_lower};
 
-use ddt_entry::{Change, Entry, MAX_BLOCK_BYTES, key_of};
-use plain_table::PlainTable;
+use ddt_entry::{Change, Entry, Key, MAX_BLOCK_BYTES, key_of};
 use pool_model::{Closed, SlotChange, StoredBlock};
-use slot_table::SlotRecord;
+use slot_table::{SlotMap, SlotRecord};
 use std::alloc::{AllocError, Global};
-use table_state::{Pool, slot_fits};
-use txg_sync::slots_after;
+use table_state::{DedupTable, Pool, slot_fits};
+use txg_sync::set_slots;
 
 /// The first sector in which a block can lie.
 const FIRST_PLACE: u64 = 32;
@@ -44,6 +46,7 @@ const LAST_SLOT: u32 = 65_535;
 /// Whether what a group leaves is in its ranges, for the next group of this pool. At the end of the numbers
 /// of groups it isn't. The error is want of memory.
 pub(crate) fn is_in_range(alloc: Global, pool: &Pool, closed: &Closed) -> Result<bool, AllocError>
+    requires sound { IsSound pool.now }
     ensures { IfOk result (λ within. within ≡ true → IsInRange pool.now (closed_of closed.now)) }
 {
     let sectors = pool.sectors;
@@ -67,11 +70,11 @@ pub(crate) fn is_in_range(alloc: Global, pool: &Pool, closed: &Closed) -> Result
 
 /// How many slots hold a pointer after a group. The error is want of memory.
 fn slots_then(alloc: Global, slots: &SlotMap, changes: &[SlotChange]) -> Result<u64, AllocError>
+    requires rising { AreRisingSlots slots.now }
     ensures { IfOk result (λ count. count ≡ length (slots_after changes.now slots.now)) }
 {
     let listed = slots.slots(alloc)?;
-    let mut after = SlotMap::new(alloc);
-    after.hold_all(listed.as_slice())?;
+    let mut after = SlotMap::of_slots(alloc, listed.as_slice())?;
     set_slots(&mut after, changes)?;
     Ok(after.len())
 }
@@ -79,8 +82,9 @@ fn slots_then(alloc: Global, slots: &SlotMap, changes: &[SlotChange]) -> Result<
 /// Whether no home that the table finds after a group counts more pointers than there are slots then. The
 /// error is want of memory.
 fn counts_within(alloc: Global, pool: &Pool, closed: &Closed) -> Result<bool, AllocError>
+    requires slots { AreRisingSlots pool.now.slots }
     requires sorted { IsTable pool.now.table }
-    ensures { IfOk result (λ within. within ≡ true → (key : Key) (home : Home)
+    ensures { IfOk result (λ within. within ≡ true → (key : AKey) (home : Home)
         → found (sync_table closed.now.changes.items pool.now.table) key ≡ Some home
         → home.count ≤ length (slots_after closed.now.slots.items pool.now.slots)) }
 {
@@ -97,7 +101,7 @@ fn table_counts(
     most: u64,
 ) -> Result<bool, AllocError>
     requires sorted { IsTable table.now.table }
-    ensures { IfOk result (λ within. within ≡ true → (key : Key) (home : Home)
+    ensures { IfOk result (λ within. within ≡ true → (key : AKey) (home : Home)
         → found (sync_table changes.now table.now.table) key ≡ Some home → home.count ≤ most) }
 {
     let homes = table.homes(alloc)?;
@@ -110,11 +114,28 @@ fn table_counts(
     Ok(changes_count(changes, most))
 }
 
-/// Whether changes rise by key.
+/// Whether each change's key comes before the next one's.
 fn are_rising(changes: &[Change]) -> bool
-    ensures { result ≡ true → AreChangesRising changes.now }
+    ensures { result ≡ rises has_lower None changes.now }
 {
-    changes.is_sorted_by(|a, b| key_of(a) < key_of(b))
+    let mut last = None;
+    'changes: for change in changes {
+        if !comes_behind(&last, change) {
+            return false;
+        }
+        last = Some(*change);
+    }
+    true
+}
+
+/// Whether a change's key comes behind that of the last one, where there is one.
+fn comes_behind(last: &Option<Change>, change: &Change) -> bool
+    ensures { result ≡ follows has_lower last.now change.now }
+{
+    match last {
+        None => true,
+        Some(last) => key_of(last).cmp(&key_of(change)).is_lt(),
+    }
 }
 
 /// Whether a change names a key.

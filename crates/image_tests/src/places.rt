@@ -9,6 +9,7 @@ use slot_table::SlotRecord;
 use std::alloc::{AllocError, Global};
 use std::process::Abort;
 use std::test::Fail;
+use table_state::DedupTable;
 use txg_sync::{ChainPages, place_chains, used_after};
 
 /// A list of so many records.
@@ -45,7 +46,7 @@ fn placed(alloc: Global, sectors: u64) -> Result<Option<Vec<ChainPages>>, AllocE
     let used = SectorSet::with_ring(alloc, sectors)?;
     let contents = a_block(alloc)?;
     let lists = three_lists(alloc)?;
-    place_chains(alloc, &used, contents.as_slice(), lists)
+    place_chains(alloc, used, contents.as_slice(), lists)
 }
 
 /// Sees how many records a chain has, and its places.

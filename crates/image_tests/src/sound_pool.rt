@@ -37,11 +37,11 @@ impl SoundPool {
         disk: &mut SilentDisk,
         closed: &Closed,
     ) -> Result<SoundPool, SyncFault> {
-        let Ok(within) = is_in_range(alloc, &self, closed) else {
+        let SoundPool { mut pool } = self;
+        let Ok(within) = is_in_range(alloc, &pool, closed) else {
             return Err(SyncFault::Memory);
         };
         assert!(rt; within);
-        let SoundPool { mut pool } = self;
         assert!(rt; pool.sealed < LAST_GROUP);
         assert!(rt; pool.sectors <= disk.sectors());
         let number = sync(alloc, &mut pool, disk, closed)?;
