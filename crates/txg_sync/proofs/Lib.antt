@@ -11,7 +11,6 @@ pub mod Afterwards
 pub mod PlannedLimits
 pub mod FewHomes
 pub mod PlannedRecords
-pub mod PlannedSlots
 pub mod PlannedSeals
 pub mod Syncs
 pub mod PlacedParts

@@ -35,10 +35,6 @@ module _ (held : Held) (closed : PlainClosed) (sound : IsSound held) (range : Is
       subst (λ (k : LoggedTable). IsTableWithin held.sectors (held.group + 1) k.table) (sym is)
       (sync_within held.sectors held.group (held.group + 1) closed.log held.table (omega arith) sound.within range.changes)
 
-  pub log_lengths_after : (kept : LoggedTable) → kept ≡ sync_logged closed.log (kept_of held) → HaveKeyLengths kept.logs
-  log_lengths_after kept is =
-      subst (λ (k : LoggedTable). HaveKeyLengths k.logs) (sym is) (logs_sync_lengths closed.log (kept_of held) sound.log_lengths range.lengths)
-
   pub slot_lengths_after : (slots : List SlotRecord) → slots ≡ slots_after closed.slots held.slots
       → AllByRecursion (λ slot. IsKeyLength slot.pointer.key.len) slots
   slot_lengths_after slots is =

@@ -43,13 +43,3 @@ stepped changes table logs appended_logs pair zap is step =
     ap third_step
     (ap (kept_in zap pair) (sym (logged-age changes table))
     ∙ second (logged changes table) (appended changes logs) (flush_limit table) pair zap after)
-
--- where nothing is left to flush, the flushing log was emptied
-pub emptied-none : (limit : _) (zap new_zap : List Entry) (pair new_pair : Paired) → IsSecondStep limit zap pair new_zap new_pair
-    → new_pair.flush ≡ [] → new_pair.logs.flushing ≡ []
-emptied-none limit zap new_zap pair new_pair step none =
-    ap (λ (p : Paired). p.logs.flushing) step.logs_are
-    ∙ by_flush (drop limit pair.flush) (sym (ap (λ (p : Paired). p.flush) step.logs_are) ∙ none)
-  where
-    by_flush : (flush : List Change) → flush ≡ [] → (emptied_log flush pair.logs).flushing ≡ []
-    by_flush flush is = ap (λ (l : List Change). (emptied_log l pair.logs).flushing) is

@@ -1,4 +1,5 @@
-ghost use Rattle.std.specs.Prelude.{◌≡◌, ◌≤◌, ℕ, Some, IfOk, OnOk, IsErrOf};
+ghost use Rattle.std.specs.Prelude.{◌≡◌, ◌≤◌, ℕ, false, replicate, Some, IfOk, OnOk, IsErrOf};
+ghost use Rattle.grant_book.specs.Sectors.{ring_used};
 ghost use Rattle.disk_model.specs.Images.{Image};
 ghost use Rattle.disk_model.specs.DiskLaws.{Stays};
 ghost use Rattle.disk_model.specs.Crashes.{LeavesOnly, NothingPending};
@@ -22,6 +23,16 @@ use slot_table::SlotMap;
 use std::alloc::{AllocError, Global};
 use table_state::{DedupTable, Pool};
 
+/// The book of a pool of so many sectors, of which the ring's are used. The error is want of memory.
+fn new_book(alloc: Global, sectors: u64) -> Result<GrantBook, AllocError>
+    requires { 32 ≤ sectors }
+    ensures used { IfOk result (λ book. book.used ≡ ring_used sectors) }
+    ensures pending { IfOk result (λ book. book.pending ≡ replicate sectors false) }
+{
+    let used = SectorSet::with_ring(alloc, sectors)?;
+    Ok(GrantBook::of_used(used))
+}
+
 /// The empty pool of group 1. The error is want of memory.
 fn new_pool(alloc: Global, tag: u8, sectors: u64) -> Result<Pool, AllocError>
     requires { 32 ≤ sectors }
@@ -32,7 +43,7 @@ fn new_pool(alloc: Global, tag: u8, sectors: u64) -> Result<Pool, AllocError>
         table: DedupTable::new(alloc),
         keys: 0,
         pages: SectorList::new(alloc),
-        book: GrantBook::of_used(SectorSet::with_ring(alloc, sectors)?),
+        book: new_book(alloc, sectors)?,
         modes: [Mode::On; 16],
         limit: None,
         tag,

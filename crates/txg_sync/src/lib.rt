@@ -1,13 +1,14 @@
 //! How a pool comes to be on a disk, and how a group is synced, so that a crash at any moment leaves the pool
 //! before or the one after it.
 //!
-//! `sync` plans first (`plan_group`): it takes all memory, makes the slots, the table, the records of the
-//! five chains and the seal that the group leaves, and chooses a sector for each page that nothing in the
-//! newest sealed image names. Then it writes (`seal_group`), which takes no memory. The seal goes into the
-//! slot of the ring that its group has. All but the gate comes first (`fill_group`), and leaves the group
-//! before whatever happens: the slot is taken, its gate closed where it reads open, and a barrier made; the
-//! blocks, the chains and the body are written, and a barrier made. Then the gate is opened, and a barrier
-//! made. `create` does so for the empty pool of group 1.
+//! `sync` plans first (`plan_group`): it takes all memory, changes the slots and the table of the pool in
+//! memory in place (`set_slots`, `sync_table`), makes the records of the five chains and the seal, and
+//! chooses a sector for each page that nothing in the newest sealed image names. Then it writes
+//! (`seal_group`), which takes no memory. The seal goes into the slot of the ring that its group has. All
+//! but the gate comes first (`fill_group`), and leaves the group before whatever happens: the slot is taken,
+//! its gate closed where it reads open, and a barrier made; the blocks, the chains and the body are written,
+//! and a barrier made. Then the gate is opened, and a barrier made. `create` does so for the empty pool of
+//! group 1. After a fault the pool in memory is given up.
 //!
 //! `specs/Planning.antt` says what is going to be written, `specs/Writing.antt` and `specs/Stages.antt` what
 //! each stage may leave, and `specs/Syncing.antt` and `specs/Creating.antt` what a sync and a creation come to.

@@ -1,11 +1,11 @@
 -- The pool that is left is the one after the group, and the parts of the plan are its own.
-use Rattle.std.proofs.Common.{◌≡◌, ◌∙◌, ◌+◌, ◌^◌, ◌≤◌, ◌<◌, ℕ, Bool, false, List, [], length, map, replicate, refl, sym, ap, subst, arith}
+use Rattle.std.proofs.Common.{◌≡◌, ◌∙◌, ◌+◌, ℕ, Bool, false, List, [], length, map, replicate, refl, sym, ap, subst, arith}
 use Rattle.std.specs.Prelude.{nat_lt}
 use Rattle.std.specs.List.{AllByRecursion}
 use Rattle.ddt_entry.specs.Spelling.{IsKeyLength}
 use Rattle.ddt_entry.specs.declared.entry.Entry.{Entry}
 use Rattle.pool_model.specs.Space.{used_sectors}
-use Rattle.pool_model.specs.Replaying.{LoggedTable, sync_logged}
+use Rattle.pool_model.specs.Replaying.{sync_logged}
 use Rattle.pool_model.specs.Table.{entries_found, counted_homes}
 use Rattle.pool_model.specs.Mirrors.{stored_of}
 use Rattle.pool_model.proofs.Lists.{length-filter-le}

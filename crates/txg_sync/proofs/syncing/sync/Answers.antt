@@ -1,5 +1,5 @@
 -- Where the plan fails nothing was begun; else what is written is told of the pool that stood before.
-use Rattle.std.proofs.Common.{◌≡◌, ℕ, List, Some, length, sym, subst}
+use Rattle.std.proofs.Common.{◌≡◌, ℕ, List, length, sym, subst}
 use Rattle.std.specs.Prelude.{OnOk}
 use Rattle.disk_model.specs.Crashes.{LeavesOnly}
 use Rattle.table_state.specs.Closing.{closed_of, records_after, pages_of}
