@@ -52,7 +52,7 @@ module _ (seal : Seal) (flat : Flat) (grounds : Grounds seal flat) where
   passed_of : (used : List Bool) → judged seal flat table ≡ Some used → Passed seal flat grounds used
   passed_of used is =
       let outer = chosen (counts_hold seal (counted_homes table) spots (length flat.named))
-      (sectors_taken seal.sectors flat.named spots table) used is in
+      (sectors_taken seal.sectors flat.named spots (waiting_in table)) used is in
       let counts = and_parts sums (list_all (is_counted spots) (counted_homes table)) outer.0 in
       let pages = and_parts _ (seal.pages == length flat.named) counts.0 in
       let numbers = and_parts (seal.homes == length (counted_homes table)) _ pages.0 in
@@ -71,7 +71,7 @@ module _ (seal : Seal) (flat : Flat) (grounds : Grounds seal flat) where
   -- where all tests passed the sectors are told
   told_of : (used : List Bool) → Passed seal flat grounds used → judged seal flat table ≡ Some used
   told_of used passed =
-      ap (λ b. if b then sectors_taken seal.sectors flat.named spots table else None)
+      ap (λ b. if b then sectors_taken seal.sectors flat.named spots (waiting_in table) else None)
       (and_both sums _
       (and_both _ (seal.pages == length flat.named)
       (and_both _ (seal.counts == sum_by (λ entry. entry.home.count) (counted_homes table)) (eq-eqb seal.homes _ passed.homes)
@@ -124,6 +124,10 @@ broken_result seal flat grounds t same result told =
     ok_weaker (λ found. found ≡ judged seal flat t) (λ found. IfNone found ((image : Image) → IsWhole image seal flat → ⊥))
     (λ found is. broken_where_none seal flat grounds found t same is) result told
 
+-- whether a home is found that isn't counted
+abbrev pub waits : Entry → Bool
+waits entry = entry.home.count == 0
+
 -- what the calls of the judgement have made
 pub record Made (seal : Seal) (flat : Flat) (t : TableState) (entries homes : List Entry) (spots : List Spot) (pages : ℕ) : Type 0 where
   pub entries_are : entries ≡ entries_found t
@@ -145,25 +149,25 @@ module _ (seal : Seal) (flat : Flat) (t : TableState) (sorted : IsTable t) (entr
       ∙ ap (λ (s : List Spot). counts_hold seal (counted_homes t) s pages) all_spots
       ∙ ap (counts_hold seal (counted_homes t) (map (spot_of t) flat.slots)) made.pages_are
 
+  -- the answer where the counts hold, and where they don't
+  by_counts : (holds : Bool) → counts_hold seal homes spots pages ≡ holds
+      → judged seal flat t ≡ (if holds then sectors_taken seal.sectors flat.named spots (filter waits entries) else None)
+  by_counts holds told =
+      ap (λ b. if b then sectors_taken seal.sectors flat.named (map (spot_of t) flat.slots) (waiting_in t) else None)
+      (sym counts_are ∙ told)
+      ∙ ap (λ (s : List Spot). if holds then sectors_taken seal.sectors flat.named s (waiting_in t) else None) (sym all_spots)
+      ∙ ap (λ (es : List Entry). if holds then sectors_taken seal.sectors flat.named spots (filter waits es) else None)
+      (sym made.entries_are)
+
   -- nothing is told where the counts don't hold
   pub none_decided : counts_hold seal homes spots pages ≡ false → None ≡ judged seal flat t
-  none_decided fails = sym
-      (ap (λ b. if b then sectors_taken seal.sectors flat.named (map (spot_of t) flat.slots) t else None) (sym counts_are ∙ fails))
+  none_decided fails = sym (by_counts false fails)
 
   -- the places decide, once the counts hold
-  pub places_decide : {E : Type 0} (named : List ℕ) (result : Result (Option (List Bool)) E) → named ≡ flat.named
-      → counts_hold seal homes spots pages ≡ true
-      → IfOk result (λ found. found ≡ sectors_taken seal.sectors named spots t) → IfOk result (λ found. found ≡ judged seal flat t)
-  places_decide named result named_are right told =
-      ok_weaker (λ found. found ≡ sectors_taken seal.sectors named spots t) (λ found. found ≡ judged seal flat t)
-      (λ found is. is ∙ by_counts) result told
-    where
-      by_counts : sectors_taken seal.sectors named spots t ≡ judged seal flat t
-      by_counts =
-          ap (λ (n : List ℕ). sectors_taken seal.sectors n spots t) named_are
-          ∙ ap (λ (s : List Spot). sectors_taken seal.sectors flat.named s t) all_spots
-          ∙ sym (ap (λ b. if b then sectors_taken seal.sectors flat.named (map (spot_of t) flat.slots) t else None)
-          (sym counts_are ∙ right))
+  pub places_decide : (named : List ℕ) (taken_are : Option (List Bool)) → named ≡ flat.named → counts_hold seal homes spots pages ≡ true
+      → taken_are ≡ sectors_taken seal.sectors named spots (filter waits entries) → taken_are ≡ judged seal flat t
+  places_decide named taken_are named_are right told =
+      told ∙ ap (λ (n : List ℕ). sectors_taken seal.sectors n spots (filter waits entries)) named_are ∙ sym (by_counts true right)
 
 -- the homes of a table rise, and so do those that are counted
 pub found_rising : (t : TableState) (entries : List Entry) → IsTable t → entries ≡ entries_found t → AreRising entries

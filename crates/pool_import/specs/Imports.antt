@@ -1,5 +1,5 @@
 -- What makes a pool in memory of an image.
-use Rattle.std.specs.Prelude.{◌≡◌, ℕ, Bool, true, List, length}
+use Rattle.std.specs.Prelude.{◌≡◌, ◌<◌, ◌^◌, ℕ, Bool, true, false, List, length, replicate}
 use Rattle.disk_model.specs.Images.{Image}
 use Rattle.uber_ring.specs.declared.seal.Seal.{Seal}
 use Rattle.pool_model.specs.Space.{used_sectors}
@@ -21,8 +21,10 @@ held_of tag seal flat used = record {
   slots = flat.slots;
   table = table_in seal flat;
   logs = logs_in flat;
+  keys = seal.homes;
   pages = flat.named;
   used = used;
+  pending = replicate seal.sectors false;
   modes = modes_in seal;
   quota = quota_in seal;
   tag = tag;
@@ -35,6 +37,7 @@ pub record IsMade (tag : ℕ) (seal : Seal) (flat : Flat) (held : Held) : Type 0
   pub used : List Bool
   pub together : HoldTogether seal flat
   pub whole : (image : Image) → IsWhole image seal flat
+  pub few : seal.homes < 2 ^ 62
   pub used_are : (image : Image) → used ≡ used_sectors seal.sectors flat.named (pool_in image seal flat) (table_in seal flat)
   pub held_is : held ≡ held_of tag seal flat used
 

@@ -18,14 +18,14 @@ abbrev pub pages_used : (sectors : ℕ) → (named : List ℕ) → List Bool
 pages_used sectors named = marked (ring_used sectors) named
 
 -- the sectors that are used, where no page, no two blocks and no home that waits share one
-abbrev pub sectors_taken : (sectors : ℕ) → (named : List ℕ) → List Spot → TableState → Option (List Bool)
-sectors_taken sectors named spots table =
+abbrev pub sectors_taken : (sectors : ℕ) → (named : List ℕ) → List Spot → (waiting : List Entry) → Option (List Bool)
+sectors_taken sectors named spots waiting =
     if list_all (is_clear (pages_used sectors named)) spots && are_owned spots 0 (replicate sectors 0) spots
-    then taken (marked (pages_used sectors named) (places_of spots)) (places_in (waiting_in table))
+    then taken (marked (pages_used sectors named) (places_of spots)) (places_in waiting)
     else None
 
 abbrev pub judged : Seal → Flat → TableState → Option (List Bool)
 judged seal flat table =
     if counts_hold seal (counted_homes table) (map (spot_of table) flat.slots) (length flat.named)
-    then sectors_taken seal.sectors flat.named (map (spot_of table) flat.slots) table
+    then sectors_taken seal.sectors flat.named (map (spot_of table) flat.slots) (waiting_in table)
     else None

@@ -1,4 +1,4 @@
-ghost use Rattle.std.specs.Prelude.{◌≡◌, ◌==◌, ℕ, IfOk, nat_lt, map, filter, count_by, sum_by};
+ghost use Rattle.std.specs.Prelude.{◌≡◌, ◌==◌, ◌<◌, ◌^◌, ℕ, true, IfOk, nat_lt, map, filter, count_by, sum_by};
 ghost use Rattle.std.specs.List.{list_all};
 ghost use Rattle.pool_import.specs.Marks.{counts_for, is_counted, sums_agree};
 ghost use Rattle.pool_model.specs.Table.{AreRising};
@@ -6,6 +6,7 @@ ghost use Rattle.pool_model.specs.Table.{AreRising};
 use crate::judge_keys::index_of;
 use crate::marks::Spot;
 use ddt_entry::Entry;
+use plain_table::count_entries;
 use std::alloc::{AllocError, Global};
 use uber_ring::Seal;
 
@@ -68,7 +69,11 @@ fn sum_is(homes: &[Entry], counts: u64) -> bool
 
 /// Whether a seal's sums are right, for these homes and so many pages.
 pub fn sums_agree(seal: &Seal, homes: &[Entry], pages: u64) -> bool
-    ensures { result ≡ sums_agree seal.now homes.now pages }
+    ensures agree { result ≡ sums_agree seal.now homes.now pages }
+    ensures few { result ≡ true → seal.now.homes < 2 ^ 62 }
 {
-    seal.homes == homes.len() as u64 && sum_is(homes, seal.counts) && seal.pages == pages
+    if seal.homes != count_entries(homes) {
+        return false;
+    }
+    sum_is(homes, seal.counts) && seal.pages == pages
 }

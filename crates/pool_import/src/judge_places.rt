@@ -1,4 +1,4 @@
-ghost use Rattle.std.specs.Prelude.{◌≡◌, ◌≤◌, ℕ, IfOk, true, false, Some, None, replicate, slice_index, slice_index_or, slice_set, slice_get, if◌then◌else◌};
+ghost use Rattle.std.specs.Prelude.{◌≡◌, ◌≤◌, ◌==◌, ℕ, filter, IfOk, true, false, Some, None, replicate, slice_index, slice_index_or, slice_set, slice_get, if◌then◌else◌};
 ghost use Rattle.std.specs.List.{list_all};
 ghost use Rattle.std.specs.Option.{option_copied};
 ghost use Rattle.grant_book.specs.Sectors.{marked};
@@ -40,12 +40,15 @@ pub fn are_clear(used: &SectorSet, spots: &[Spot]) -> bool
     true
 }
 
-/// Takes the places of these homes, one after another, where each is free until then. Says whether each was;
-/// where one wasn't, nothing is said of what is used.
-pub fn take_homes(used: &mut SectorSet, waiting: &[Entry]) -> bool
-    ensures { taken used.old (places_in waiting.now) ≡ (if result then Some used.new else None) }
+/// Takes the places of those of these homes that aren't counted, one after another, where each is free until
+/// then. Says whether each was; where one wasn't, nothing is said of what is used.
+pub fn take_waiting(used: &mut SectorSet, homes: &[Entry]) -> bool
+    ensures { taken used.old (places_in (filter (λ entry. entry.home.count == 0) homes.now)) ≡ (if result then Some used.new else None) }
 {
-    'homes: for entry in waiting {
+    'homes: for entry in homes {
+        if entry.home.count > 0 {
+            continue;
+        }
         if is_used(used, entry.home.place) {
             return false;
         }

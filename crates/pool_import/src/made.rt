@@ -1,9 +1,9 @@
-ghost use Rattle.std.specs.Prelude.{◌≡◌, ◌≤◌, true, map, IfOk, IfSome, IfNone};
+ghost use Rattle.std.specs.Prelude.{◌≡◌, ◌≤◌, true, length, map, IfOk, IfSome, IfNone};
 ghost use Rattle.std.specs.List.{AllByRecursion};
 ghost use Rattle.disk_model.specs.Images.{Image};
 ghost use Rattle.slot_table.specs.Slots.{AreRisingSlots};
 ghost use Rattle.table_state.specs.SealForms.{modes_in, quota_in};
-ghost use Rattle.table_state.specs.Flat.{HoldTogether, table_in};
+ghost use Rattle.table_state.specs.Flat.{HoldTogether, table_in, logs_in};
 ghost use Rattle.table_state.specs.SlotRecords.{is_slot};
 ghost use Rattle.pool_import.specs.Lengths.{HasLengths};
 ghost use Rattle.pool_import.specs.Whole.{IsWhole};
@@ -13,17 +13,19 @@ use crate::flat::FlatImage;
 use crate::judge::judge;
 use crate::tables::table_of;
 use crate::whole::hold_together;
-use grant_book::SectorSet;
-use plain_table::{KeptLogs, PlainTable};
+use disk_model::Disk;
+use grant_book::{GrantBook, SectorSet};
 use pool_model::Mode;
 use slot_table::SlotMap;
 use std::alloc::{AllocError, Global};
-use table_state::{Pool, mode_of};
+use table_state::{DedupTable, Pool, mode_of};
 use uber_ring::{Seal, seal_fits};
 
-/// The pool that a seal and its parts make, and `None` where they break a rule. The error is want of memory.
-pub fn pool_of(
+/// The pool that a seal and its parts make, and `None` where they break a rule. No sector is read. The error is
+/// want of memory.
+pub fn pool_of<D: Disk>(
     alloc: Global,
+    disk: &D,
     seal: &Seal,
     tag: u8,
     flat: FlatImage,
@@ -38,23 +40,24 @@ pub fn pool_of(
     if !hold_together(seal, &flat) {
         return Ok(None);
     }
-    let table = table_of(alloc, seal, &flat)?;
+    let table = table_of(alloc, disk, seal, &flat)?;
     let Some(used) = judge(alloc, seal, &flat, &table)? else {
         return Ok(None);
     };
     Ok(Some(assembled(alloc, seal, tag, flat, table, used)?))
 }
 
-/// The pool of these parts with this table. It keeps the logs as they were read. The error is want of memory.
+/// The pool of these parts with this table and these used sectors. The error is want of memory.
 fn assembled(
     alloc: Global,
     seal: &Seal,
     tag: u8,
     flat: FlatImage,
-    table: PlainTable,
+    table: DedupTable,
     used: SectorSet,
 ) -> Result<Pool, AllocError>
-    requires table { table ≡ table_in seal.now flat }
+    requires table { table ≡ record { table = table_in seal.now flat; logs = logs_in flat } }
+    requires sectors { length used ≡ seal.now.sectors }
     requires slots { AreRisingSlots flat.slots }
     ensures { IfOk result (λ pool. pool ≡ held_of tag seal.now flat used) }
 {
@@ -62,12 +65,9 @@ fn assembled(
     Ok(Pool {
         slots,
         table,
-        logs: KeptLogs {
-            active: flat.active.into_vec(),
-            flushing: flat.flushing.into_vec(),
-        },
+        keys: seal.homes,
         pages: flat.named,
-        used,
+        book: GrantBook::of_used(used),
         modes: modes_of(seal),
         limit: quota_of(seal),
         tag,

@@ -68,7 +68,7 @@ pub fn sealed_pool<D: Disk>(
         return Err(PageFault::Damaged(body));
     }
     let flat = read_flat(alloc, disk, meter, seal)?;
-    let Some(pool) = pool_of(alloc, seal, tag, flat)? else {
+    let Some(pool) = pool_of(alloc, disk, seal, tag, flat)? else {
         return Err(PageFault::Damaged(body));
     };
     Ok(pool)
