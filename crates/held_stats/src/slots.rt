@@ -5,10 +5,10 @@ ghost use Rattle.table_state.specs.Flat.{mark_by, mark_of};
 ghost use Rattle.held_stats.specs.Slots.{reference_in};
 
 use ddt_entry::{Home, SlotKind};
-use plain_table::PlainTable;
 use pool_stats::{Reference, Standing};
 use slot_table::SlotRecord;
 use std::alloc::{AllocError, Global};
+use table_state::DedupTable;
 
 /// How the table knows a flagged pointer of this place and birth whose key has this home.
 fn standing_by(home: Option<Home>, place: u64, birth: u64) -> Standing
@@ -27,8 +27,8 @@ fn standing_by(home: Option<Home>, place: u64, birth: u64) -> Standing
 }
 
 /// How the table knows what a slot holds.
-fn standing_in(table: &PlainTable, slot: &SlotRecord) -> Standing
-    ensures { result ≡ standing_of (mark_of slot.now.pointer.kind (found table.now slot.now.pointer.key) slot.now.pointer.place slot.now.pointer.birth) }
+fn standing_in(table: &DedupTable, slot: &SlotRecord) -> Standing
+    ensures { result ≡ standing_of (mark_of slot.now.pointer.kind (found table.now.table slot.now.pointer.key) slot.now.pointer.place slot.now.pointer.birth) }
 {
     match slot.pointer.kind {
         SlotKind::Plain => Standing::Plain,
@@ -43,10 +43,10 @@ fn standing_in(table: &PlainTable, slot: &SlotRecord) -> Standing
 /// What the slots hold, as the statistics see it by the table. The error is want of memory.
 pub fn references_in(
     alloc: Global,
-    table: &PlainTable,
+    table: &DedupTable,
     slots: &[SlotRecord],
 ) -> Result<Vec<Reference>, AllocError>
-    ensures seen { IfOk result (λ references. references.items ≡ map (reference_in table.now) slots.now) }
+    ensures seen { IfOk result (λ references. references.items ≡ map (reference_in table.now.table) slots.now) }
     ensures keys { IfOk result (λ references. map (λ reference. reference.key) references.items ≡ map (λ slot. slot.pointer.key) slots.now) }
 {
     let mut references = Vec::new(alloc);

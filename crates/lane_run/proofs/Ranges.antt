@@ -9,7 +9,6 @@ use Rattle.std.proofs.lemmas.List.{map-append, take_more}
 use Rattle.ddt_entry.specs.declared.key.Key.{Key}
 use Rattle.ddt_entry.specs.declared.entry.Home.{Home}
 use Rattle.ddt_entry.specs.declared.entry.Entry.{Entry}
-use Rattle.ddt_entry.specs.Keys.{key_eq}
 use Rattle.ddt_entry.specs.Spelling.{IsKeyLength, KeyFits}
 use Rattle.grant_book.specs.Sectors.{AreFirstFree}
 use Rattle.grant_book.proofs.FreeLaws.{found-distinct}

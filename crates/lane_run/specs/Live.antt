@@ -1,7 +1,6 @@
 -- A group of writes of lane 0 as far as it has come, beside the pool as the newest sealed group left it: what one write makes of it.
 use Rattle.std.specs.Prelude.{◌≡◌, ◌⊎◌, ℕ, ◌+◌, ◌-◌, ◌^◌, ◌<◌, ◌≤◌, min, ⊤, Bool, true, ◌&&◌, ◌||◌, ◌==◌, List, [], ◌∷◌, ◌++◌, take, fold, length, Option, Some, None, unwrap_or, slice_get, if◌then◌else◌}
 use Rattle.std.specs.List.{AllByRecursion, count_by, find, filter_map, list_any}
-use Rattle.ddt_entry.specs.Keys.{key_eq}
 use Rattle.ddt_entry.specs.Spelling.{KeyFits}
 use Rattle.ddt_entry.specs.declared.key.Key.{Key}
 use Rattle.ddt_entry.specs.declared.entry.Home.{Home}

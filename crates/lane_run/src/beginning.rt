@@ -1,12 +1,11 @@
 //! What a group takes before its writes, and its writes.
 
-ghost use Rattle.std.specs.Prelude.{◌≡◌, ◌≤◌, ◌<◌, ◌+◌, ◌-◌, ◌^◌, ℕ, List, filter, min, nat_lt, not, length, map, IfOk};
+ghost use Rattle.std.specs.Prelude.{◌≤◌, ◌<◌, ◌+◌, ◌-◌, ◌^◌, ◌≡◌, min, not, length, map, IfOk};
 ghost use Rattle.std.specs.List.{AllByRecursion, count_by};
 ghost use Rattle.disk_model.specs.DiskLaws.{Stays, SameOutcomes};
 ghost use Rattle.disk_model.specs.Crashes.{LeavesOnly};
 ghost use Rattle.grant_book.specs.Sectors.{AreFirstFree};
 ghost use Rattle.pool_model.specs.Mirrors.{task_of};
-ghost use Rattle.pool_model.specs.Table.{counted_homes};
 ghost use Rattle.table_state.specs.Closing.{IsInRange};
 ghost use Rattle.table_state.specs.Sound.{IsSound};
 ghost use Rattle.lane_run.specs.Groups.{IsFirstWrite};
@@ -15,36 +14,11 @@ ghost use Rattle.lane_run.specs.Live.{group_here};
 
 use crate::live::LiveGroup;
 use crate::metering::metered;
-use ddt_entry::{Entry, KeyOf};
+use ddt_entry::KeyOf;
 use disk_model::{Disk, crash_laws};
 use pool_model::{Command, GroupFault};
-use std::alloc::{AllocError, Global};
+use std::alloc::Global;
 use table_state::Pool;
-
-/// The homes that are counted.
-fn counted(mut entries: Vec<Entry>) -> Vec<Entry>
-    ensures { result.items ≡ filter (λ entry. nat_lt 0 entry.home.count) entries.items }
-{
-    entries.retain(|entry| entry.home.count > 0);
-    entries
-}
-
-/// How many items a list of entries has: each takes 72 bytes.
-fn count_entries(entries: &[Entry]) -> u64
-    ensures count { result ≡ length entries.now }
-    ensures few { result < 2 ^ 62 }
-{
-    entries.len() as u64
-}
-
-/// How many keys a pool counts. The error is want of memory.
-fn counted_keys(alloc: Global, pool: &Pool) -> Result<u64, AllocError>
-    ensures keys { IfOk result (λ keys. keys ≡ length (counted_homes pool.now.table)) }
-    ensures few { IfOk result (λ keys. keys < 2 ^ 62) }
-{
-    let entries = counted(pool.table.entries_found(alloc)?);
-    Ok(count_entries(entries.as_slice()))
-}
 
 /// Does a group's writes behind its opening: what it has come to, and how many reads failed. Where there are none, no
 /// meter is asked for.
@@ -75,15 +49,12 @@ pub fn begun<D: Disk, K: KeyOf>(
     ensures causes { OnlyMeter (D.state disk.old).write_faults (D.state disk.new).write_faults result }
 {
     crash_laws(disk);
-    let Ok(found) = pool.used.free_places(alloc, commands.len() as u64) else {
+    let Ok(found) = pool.book.free_places(alloc, commands.len() as u64) else {
         return Err(GroupFault::Memory);
     };
     let Some(places) = found else { unreachable!() };
-    let Ok(keys) = counted_keys(alloc, pool) else {
-        return Err(GroupFault::Memory);
-    };
     if commands.is_empty() {
-        let Ok(live) = LiveGroup::opened(alloc, keys, 0) else {
+        let Ok(live) = LiveGroup::opened(alloc, pool.keys, 0) else {
             return Err(GroupFault::Memory);
         };
         return Ok((live, 0));
@@ -96,6 +67,6 @@ pub fn begun<D: Disk, K: KeyOf>(
         commands,
         moment,
         places.as_slice(),
-        keys,
+        pool.keys,
     )
 }

@@ -20,7 +20,7 @@ pub returns : goal.returns
 returns c image p table is =
     let seen : c.as_slice-2.result.now ≡ map (reference_in c.args.pool.now.table) c.args.pool.now.slots =
     c.as_slice-2.ensures.value ∙ c.in_ok-references.ensures.seen
-    ∙ ap (map (reference_in c.pool.inside.table)) (c.as_slice.ensures.value ∙ c.in_ok-slots.ensures)
+    ∙ ap (map (reference_in c.pool.inside.table.table)) (c.as_slice.ensures.value ∙ c.in_ok-slots.ensures)
     ∙ ap (λ (h : Held). map (reference_in h.table) h.slots) c.pool.view_is
     in
     c.stats.ensures p (references_of-held image c.args.pool.now p table is ∙ sym seen)

@@ -4,5 +4,5 @@ use Rattle.held_stats.proofs.slots.references_in.Given as goal
 
 abbrev pub invariant-slots : goal.invariant-slots
 invariant-slots l =
-    (l.references.items ≡ map (reference_in l.table) (take l.slot-index l.slots))
+    (l.references.items ≡ map (reference_in l.table.table) (take l.slot-index l.slots))
     × (map (λ reference. reference.key) l.references.items ≡ map (λ slot. slot.pointer.key) (take l.slot-index l.slots))
