@@ -24,7 +24,7 @@ pub fn table_of<D: Disk>(
     seal: &Seal,
     flat: &FlatImage,
 ) -> Result<DedupTable, AllocError>
-    requires { HoldTogether seal.now flat.now }
+    requires together { HoldTogether seal.now flat.now }
     ensures { IfOk result (λ table. table ≡ record { table = table_in seal.now flat.now; logs = logs_in flat.now }) }
 {
     let mut reader = NoPages::new();
