@@ -6,7 +6,8 @@ use crate::parts::{
 };
 use ddt_entry::{Change, Sha256Key};
 use disk_model::MemDisk;
-use grant_book::SectorSet;
+use grant_book::GrantBook;
+use log_pair::LogPair;
 use pool_import::import;
 use pool_model::Mode;
 use std::alloc::Global;
@@ -16,17 +17,17 @@ use table_state::{Pool, new_seal};
 use uber_ring::Seal;
 
 /// Whether a sector is used.
-fn is_used(rt: &impl Abort, used: &SectorSet, sector: u64) -> bool {
-    assert!(rt; sector < used.len());
-    used.has(sector)
+fn is_used(rt: &impl Abort, book: &GrantBook, sector: u64) -> bool {
+    assert!(rt; sector < book.len());
+    book.has(sector)
 }
 
 /// How many of the first 200 sectors are used, and which is the last of them.
-fn used_of(rt: &impl Abort, used: &SectorSet) -> (u64, u64) {
+fn used_of(rt: &impl Abort, book: &GrantBook) -> (u64, u64) {
     let mut count = 0u64;
     let mut last = 0;
     for sector in 0..200u64 {
-        if is_used(rt, used, sector) {
+        if is_used(rt, book, sector) {
             count = count.saturating_add(1);
             last = sector;
         }
@@ -36,9 +37,10 @@ fn used_of(rt: &impl Abort, used: &SectorSet) -> (u64, u64) {
 
 /// Sees that a pool has nothing in it.
 fn assert_is_empty(rt: &impl Abort, pool: &Pool) {
-    let told = (pool.slots.len(), pool.pages.len(), pool.table.zap.len());
+    let told = (pool.slots.len(), pool.pages.len(), pool.table.classes.len());
     assert_same(rt, "the lengths", told, (0, 0, 0));
-    assert_same(rt, "the used sectors", used_of(rt, &pool.used), (32, 31));
+    assert_same(rt, "the keys", pool.keys, 0);
+    assert_same(rt, "the used sectors", used_of(rt, &pool.book), (32, 31));
 }
 
 /// Sees that a pool has the settings and the numbers of a new one.
@@ -63,10 +65,11 @@ fn assert_has_one(rt: &impl Abort, alloc: Global, pool: &Pool) -> Result<(), Fai
     let (slots, homes) = ([slot(7, 1, 100)], [entry(1, 100, 1)]);
     let held = pool.slots.slots(alloc)?;
     assert_same(rt, "slots", held.as_slice(), slots.as_slice());
-    let stored = pool.table.zap.entries(alloc)?;
+    let stored = pool.table.classes.listed(alloc)?;
     assert_same(rt, "homes", stored.as_slice(), homes.as_slice());
+    assert_same(rt, "the keys", pool.keys, 1);
     assert_same(rt, "pages", pool.pages.as_slice(), [50, 49].as_slice());
-    assert_same(rt, "the used sectors", used_of(rt, &pool.used), (35, 100));
+    assert_same(rt, "the used sectors", used_of(rt, &pool.book), (35, 100));
     Ok(())
 }
 
@@ -101,10 +104,11 @@ fn assert_has_shared(rt: &impl Abort, alloc: Global, pool: &Pool) -> Result<(), 
     let homes = [entry(1, 100, 2)];
     let held = pool.slots.slots(alloc)?;
     assert_same(rt, "slots", held.as_slice(), slots.as_slice());
-    let stored = pool.table.zap.entries(alloc)?;
+    let stored = pool.table.classes.listed(alloc)?;
     assert_same(rt, "homes", stored.as_slice(), homes.as_slice());
-    assert_same(rt, "changes", pool.table.active.len(), 2);
-    assert_same(rt, "the used sectors", used_of(rt, &pool.used), (37, 101));
+    assert_same(rt, "the keys", pool.keys, 1);
+    assert_same(rt, "changes", pool.table.logs.len(0), 2);
+    assert_same(rt, "the used sectors", used_of(rt, &pool.book), (37, 101));
     Ok(())
 }
 
@@ -170,22 +174,33 @@ fn with_checkpoint(seal: Seal) -> Seal {
     seal
 }
 
+/// The sorted list of the active log (0) or of the flushing log (1).
+fn listed(rt: &impl Abort, alloc: Global, logs: &LogPair, at: u32) -> Result<Vec<Change>, Fail> {
+    assert!(rt; at < 2);
+    let mut list = Vec::new(alloc);
+    for change in logs.walk(at) {
+        list.push(*change)?;
+    }
+    Ok(list)
+}
+
 /// Sees that a pool has the logs of that one.
 fn assert_has_logs(rt: &impl Abort, alloc: Global, pool: &Pool) -> Result<(), Fail> {
     let (active, flushing) = ([Change::Gone(key(2))], [Change::Gone(key(3))]);
-    let table = &pool.table;
-    let last = table.active.changes(alloc)?;
+    let logs = &pool.table.logs;
+    let last = listed(rt, alloc, logs, 0)?;
     assert_same(rt, "active", last.as_slice(), active.as_slice());
-    let left = table.flush.changes(alloc)?;
+    let left = listed(rt, alloc, logs, 1)?;
     assert_same(rt, "flushing", left.as_slice(), flushing.as_slice());
-    assert_same(rt, "the checkpoint", table.checkpoint, Some(key(1)));
+    assert_same(rt, "the checkpoint", logs.checkpoint(), Some(key(1)));
     Ok(())
 }
 
 /// Sees that the logs of a pool keep these changes.
 fn assert_keeps(rt: &impl Abort, pool: &Pool, active: &[Change], flushing: &[Change]) {
-    assert_same(rt, "kept", pool.logs.active.as_slice(), active);
-    assert_same(rt, "kept back", pool.logs.flushing.as_slice(), flushing);
+    let logs = &pool.table.logs;
+    assert_same(rt, "kept", logs.kept(0), active);
+    assert_same(rt, "kept back", logs.kept(1), flushing);
 }
 
 #[test]
@@ -219,12 +234,13 @@ fn of_a_key_logged_twice(rt: &impl Abort, disk: &mut MemDisk) -> Result<Seal, Fa
 fn assert_has_last(rt: &impl Abort, alloc: Global, pool: &Pool) -> Result<(), Fail> {
     let twice = entry(1, 100, 2);
     let last = [Change::Entry(twice), Change::Gone(key(3))];
-    let active = pool.table.active.changes(alloc)?;
+    let active = listed(rt, alloc, &pool.table.logs, 0)?;
     assert_same(rt, "active", active.as_slice(), last.as_slice());
-    assert_same(rt, "flushing", pool.table.flush.len(), 0);
+    assert_same(rt, "the keys", pool.keys, 1);
+    assert_same(rt, "flushing", pool.table.logs.len(1), 0);
     let found = pool.table.found(&key(1));
     assert_same(rt, "the home", found, Some(twice.home));
-    assert_same(rt, "the used sectors", used_of(rt, &pool.used), (35, 100));
+    assert_same(rt, "the used sectors", used_of(rt, &pool.book), (35, 100));
     Ok(())
 }
 
@@ -276,14 +292,15 @@ fn assert_has_left(rt: &impl Abort, alloc: Global, pool: &Pool) -> Result<(), Fa
     let (twice, waiting) = (entry(2, 101, 2), entry(3, 102, 0));
     let (active, flushing) = ([Change::Entry(waiting)], [Change::Entry(twice)]);
     let table = &pool.table;
-    let last = table.active.changes(alloc)?;
+    let last = listed(rt, alloc, &table.logs, 0)?;
     assert_same(rt, "active", last.as_slice(), active.as_slice());
-    let left = table.flush.changes(alloc)?;
+    let left = listed(rt, alloc, &table.logs, 1)?;
     assert_same(rt, "flushing", left.as_slice(), flushing.as_slice());
+    assert_same(rt, "the keys", pool.keys, 2);
     let found = [1, 2, 3].map(|byte| table.found(&key(byte)));
     let homes = [entry(1, 100, 1), twice, waiting].map(|entry| Some(entry.home));
     assert_same(rt, "the homes", found, homes);
-    assert_same(rt, "the used sectors", used_of(rt, &pool.used), (39, 102));
+    assert_same(rt, "the used sectors", used_of(rt, &pool.book), (39, 102));
     Ok(())
 }
 
