@@ -9,7 +9,7 @@
 //! caller proves that a part fits. What stands at an offset is read by `ddt_entry::fields`.
 //!
 //! `PageReader` reads the page of a pointer and compares its digest; `PlainReader` does so by one read
-//! of the disk.
+//! of the disk. `NoPages` is for objects that are held in memory and have no page.
 //!
 //! A chain keeps a list of records of 72 bytes, 56 on a page; each page names the next one.
 //! `write_chain` writes its pages from the last to the first, and its clause on crashes says that
@@ -37,4 +37,4 @@ pub use chain_page::PAGE_RECORDS;
 pub use chain_walk::{RecordList, SectorList, read_chain};
 pub use fault::{FindFault, PageFault};
 pub use pointer::{PagePtr, pointer_fits, pointers_fit};
-pub use reader::{PageReader, PlainReader};
+pub use reader::{NoPages, PageReader, PlainReader};

@@ -54,3 +54,28 @@ impl<D: Disk> PageReader<D> for PlainReader<D> {
         Ok(())
     }
 }
+
+/// A reader for objects that are held in memory and have no page: each read fails, and is counted. It fits
+/// every disk.
+#[derive(Drop)]
+pub struct NoPages {
+    faults: u64,
+}
+
+impl NoPages {
+    /// A reader that no read has failed through yet.
+    pub fn new() -> NoPages {
+        NoPages { faults: 0 }
+    }
+}
+
+impl<D: Disk> PageReader<D> for NoPages {
+    ghost faults = { λ reader. reader.faults };
+
+    ghost fits = { λ reader disk. ⊤ };
+
+    fn page(&mut self, disk: &D, ptr: &PagePtr, out: &mut [u8; 4096]) -> Result<(), FindFault> {
+        self.faults = self.faults.saturating_add(1);
+        Err(FindFault::ReadFault)
+    }
+}

@@ -1,4 +1,4 @@
-ghost use Rattle.std.specs.Prelude.{◌≡◌, ◌<◌, ◌^◌, [], length, IfOk, OnOk, OnErr};
+ghost use Rattle.std.specs.Prelude.{◌≡◌, ◌<◌, ◌^◌, [], length, None, IfOk, OnOk, OnErr};
 ghost use Rattle.pool_model.specs.Table.{entry_at, set_entry, drop_entry};
 
 use ddt_entry::{Entry, Home, Key};
@@ -68,6 +68,7 @@ impl HomeMap {
         ensures before { IfOk result (λ before. before ≡ entry_at key.now self.old) }
         ensures set { OnOk result (self.new ≡ set_entry (record { key = key.now; home = home }) self.old) }
         ensures refused { OnErr result (self.new ≡ self.old) }
+        ensures absent { OnErr result (entry_at key.now self.old ≡ None) }
     {
         let before = self.homes.insert(*key, home)?;
         Ok(before)

@@ -1,4 +1,4 @@
-ghost use Rattle.std.specs.Prelude.{◌≡◌, ◌==◌, IfOk, OnOk, fold, filter};
+ghost use Rattle.std.specs.Prelude.{◌≡◌, ◌==◌, ◌<◌, ◌^◌, nat_lt, IfOk, OnOk, length, fold, filter};
 ghost use Rattle.pool_model.specs.Table.{AreRising, set_entry, set_found, entries_found, waiting_in};
 
 use crate::home_map::HomeMap;
@@ -78,6 +78,22 @@ impl PlainTable {
         let found = self.entries_found(alloc)?;
         Ok(not_counted(found))
     }
+}
+
+/// The entries with a count above 0. Takes no memory.
+pub fn counted(mut entries: Vec<Entry>) -> Vec<Entry>
+    ensures { result.items ≡ filter (λ entry. nat_lt 0 entry.home.count) entries.items }
+{
+    entries.retain(|entry| entry.home.count > 0);
+    entries
+}
+
+/// How many entries a list has: each takes 72 bytes.
+pub fn count_entries(entries: &[Entry]) -> u64
+    ensures count { result ≡ length entries.now }
+    ensures few { result < 2 ^ 62 }
+{
+    entries.len() as u64
 }
 
 /// The entries with a count of 0.

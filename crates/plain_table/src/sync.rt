@@ -11,10 +11,10 @@ use ddt_entry::{Change, Key, key_of};
 use std::alloc::{AllocError, Global};
 
 /// For how many groups an active log may grow before it is flushed.
-const SWAP_AGE: u64 = 8;
+pub const SWAP_AGE: u64 = 8;
 
 /// How many keys an active log may have before it is flushed.
-const SWAP_KEYS: u64 = 1000;
+pub const SWAP_KEYS: u64 = 1000;
 
 impl PlainTable {
     /// The table after a group with these changes.

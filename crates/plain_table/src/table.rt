@@ -80,7 +80,7 @@ pub fn entry_at(entries: &[Entry], key: &Key) -> Option<Home>
 }
 
 /// A change's home, or else what stands below it.
-fn found_over(below: Option<Home>, change: Option<Change>) -> Option<Home>
+pub fn found_over(below: Option<Home>, change: Option<Change>) -> Option<Home>
     ensures { result ≡ found_over below change }
 {
     match change {
