@@ -6,7 +6,7 @@ ghost use Rattle.pool_model.specs.Table.{AreRising, entry_at, set_entry, drop_en
 ghost use Rattle.ddt_class.specs.Classes.{class_in, counts_in, count_of, put_in, home_before};
 
 use crate::merging::merged;
-use ddt_entry::{Home, Key};
+use ddt_entry::{Entry, Home, Key};
 use disk_model::Disk;
 use page_tree::{FindFault, PageFault, PageReader};
 use plain_table::HomeMap;
@@ -112,6 +112,13 @@ impl Classes {
         let _counts = self.counts;
     }
 
+    /// The home of a key. Takes no memory, and reads no sector.
+    pub fn home_of(&self, key: &Key) -> Option<Home>
+        ensures { result ≡ entry_at key.now self.now }
+    {
+        self.unique.find(key).or(self.duplicate.find(key))
+    }
+
     /// The home of a key. Takes no memory. Over lists in memory no sector is read, and there is no fault.
     pub fn find<D: Disk, P: PageReader<D>>(
         &self,
@@ -125,7 +132,7 @@ impl Classes {
         ensures fits { P.fits reader.new disk.now }
         ensures count { P.faults reader.old ≤ P.faults reader.new }
     {
-        Ok(self.unique.find(key).or(self.duplicate.find(key)))
+        Ok(self.home_of(key))
     }
 
     /// Gives a key this home, in the class of its count; the other class has the key no more. The error is
@@ -174,6 +181,15 @@ impl Classes {
         Ok(before)
     }
 
+    /// All entries, sorted by key. Reads no sector. The error is want of memory.
+    pub fn listed(&self, alloc: Global) -> Result<Vec<Entry>, AllocError>
+        ensures { IfOk result (λ list. list.items ≡ self.now) }
+    {
+        let unique = self.unique.entries(alloc)?;
+        let duplicate = self.duplicate.entries(alloc)?;
+        Ok(merged(alloc, unique.as_slice(), duplicate.as_slice())?.into_vec())
+    }
+
     /// All entries, sorted by key. The error is want of memory.
     pub fn entries<D: Disk, P: PageReader<D>>(
         &self,
@@ -187,9 +203,7 @@ impl Classes {
         ensures fits { P.fits reader.new disk.now }
         ensures count { P.faults reader.old ≤ P.faults reader.new }
     {
-        let unique = self.unique.entries(alloc)?;
-        let duplicate = self.duplicate.entries(alloc)?;
-        Ok(merged(alloc, unique.as_slice(), duplicate.as_slice())?)
+        Ok(EntryList::from_vec(self.listed(alloc)?))
     }
 
     /// How many entries a class has: 0 names the unique one, any other number the duplicate one.

@@ -3,10 +3,10 @@ use Rattle.std.specs.Prelude.{List}
 use Rattle.ddt_entry.specs.declared.entry.Entry.{Entry}
 use Rattle.pool_model.specs.Table.{entry_at}
 use Rattle.ddt_class.proofs.Classed.{or_found, found_first}
-use Rattle.ddt_class.proofs.classes.Classes.find.Goals as goal
+use Rattle.ddt_class.proofs.classes.Classes.home_of.Goals as goal
 
-pub returns-clause-found : goal.returns-clause-found
-returns-clause-found g c =
+pub returns : goal.returns
+returns c =
     c.or.ensures ∙ or_found c.find.ensures c.find-2.ensures
     ∙ found_first _ _ _ _ c.self.invariant c.args.key.now
     ∙ ap (λ (es : List Entry). entry_at c.args.key.now es) c.self.view_is
