@@ -1,9 +1,10 @@
-ghost use Rattle.std.specs.Prelude.{◌≡◌, ◌≤◌, ◌<◌, [], length, slice_get, Some, IfOk, IfErr, OnOk, OnErr};
+ghost use Rattle.std.specs.Prelude.{◌≡◌, ◌≤◌, ◌<◌, [], length, slice_get, Some, None, IfOk, IfErr, OnOk, OnErr};
 ghost use Rattle.std.specs.Option.{option_copied};
 ghost use Rattle.std.specs.Map.Iter.{ShowsInOrder, deref};
 ghost use Rattle.ddt_entry.specs.declared.entry.Change.{Change as Changed};
 ghost use Rattle.page_tree.specs.declared.fault.PageFault.TheVariants.{Memory};
 ghost use Rattle.pool_model.specs.Table.{change_at};
+ghost use Rattle.pool_model.specs.Logs.{empty_logs};
 ghost use Rattle.plain_table.specs.Keyed.{first};
 ghost use Rattle.log_pair.specs.Paired.{IsReplayed, of_logs, with_change, popped, emptied_pair, swapped_pair, list_at, log_at};
 
@@ -37,6 +38,18 @@ impl Model for LogPair {
 }
 
 impl LogPair {
+    /// The pair of two logs without changes. Takes no memory.
+    pub fn new(alloc: Global) -> LogPair
+        ensures { result ≡ record { active = []; flush = []; logs = empty_logs; checkpoint = None } }
+    {
+        LogPair {
+            active: ChangeMap::new(alloc),
+            flush: ChangeMap::new(alloc),
+            active_log: LogObject::of_root(alloc, None, 0, None),
+            flushing_log: LogObject::of_root(alloc, None, 0, None),
+        }
+    }
+
     /// The pair of these logs, with the lists that they are replayed to. The error is want of memory.
     pub fn replay<D: Disk, P: PageReader<D>>(
         alloc: Global,
@@ -180,6 +193,19 @@ impl LogPair {
         ensures runs { ShowsInOrder (deref {X = Changed}) }
     {
         self.list(at).walk()
+    }
+
+    /// The active log (0) or the flushing log (1): the changes that were appended to it since it was last
+    /// empty, in their order. Takes no memory.
+    pub fn kept(&self, at: u32) -> &[Change]
+        requires { at < 2 }
+        ensures { result.now ≡ log_at at self.now.logs }
+    {
+        if at == 0 {
+            self.active_log.as_slice()
+        } else {
+            self.flushing_log.as_slice()
+        }
     }
 
     /// How many changes were appended to the active log (0) or the flushing log (1) since it was last
