@@ -1,19 +1,19 @@
-ghost use Rattle.std.specs.Prelude.{◌≡◌, ◌≤◌, ◌<◌, [], length, slice_get, Some, None, IfOk, IfErr, OnOk, OnErr};
+ghost use Rattle.std.specs.Prelude.{◌≡◌, ◌≤◌, ◌<◌, ◌^◌, [], fold, length, slice_get, Some, None, IfOk, IfErr, OnOk, OnErr};
 ghost use Rattle.std.specs.Option.{option_copied};
 ghost use Rattle.std.specs.Map.Iter.{ShowsInOrder, deref};
 ghost use Rattle.ddt_entry.specs.declared.entry.Change.{Change as Changed};
 ghost use Rattle.page_tree.specs.declared.fault.PageFault.TheVariants.{Memory};
-ghost use Rattle.pool_model.specs.Table.{change_at};
+ghost use Rattle.pool_model.specs.Table.{AreRising, change_at, set_found};
 ghost use Rattle.pool_model.specs.Logs.{empty_logs};
 ghost use Rattle.plain_table.specs.Keyed.{first};
 ghost use Rattle.log_pair.specs.Paired.{IsReplayed, of_logs, with_change, popped, emptied_pair, swapped_pair, list_at, log_at};
 
-use ddt_entry::{Change, Key, key_of};
+use ddt_entry::{Change, Entry, Key, key_of};
 use disk_model::Disk;
 use log_object::LogObject;
 use page_tree::{PageFault, PageReader};
-use plain_table::{ChangeMap, last_changes, left_in};
-use std::alloc::Global;
+use plain_table::{ChangeMap, laid_over, last_changes, left_in};
+use std::alloc::{AllocError, Global};
 use std::collections::btree_map::Values;
 use std::marker::Model;
 use std::mem::swap;
@@ -48,6 +48,16 @@ impl LogPair {
             active_log: LogObject::of_root(alloc, None, 0, None),
             flushing_log: LogObject::of_root(alloc, None, 0, None),
         }
+    }
+
+    /// The homes that are found where these are stored, which rise by key: the flushing list lies over them, and
+    /// the active list over that. The error is want of memory.
+    pub fn homes_found(&self, alloc: Global, stored: &[Entry]) -> Result<Vec<Entry>, AllocError>
+        requires { AreRising stored.now }
+        ensures { IfOk result (λ found. found.items ≡ fold set_found (fold set_found stored.now self.now.flush) self.now.active) }
+    {
+        let flushed = laid_over(alloc, stored, &self.flush)?;
+        laid_over(alloc, flushed.as_slice(), &self.active)
     }
 
     /// The pair of these logs, with the lists that they are replayed to. The error is want of memory.
@@ -171,7 +181,8 @@ impl LogPair {
     /// How many changes are in `active` (0) or `flush` (1). Takes no memory.
     pub fn len(&self, at: u32) -> u64
         requires { at < 2 }
-        ensures { result ≡ length (list_at at self.now) }
+        ensures count { result ≡ length (list_at at self.now) }
+        ensures small { result < 2 ^ 63 }
     {
         self.list(at).len()
     }

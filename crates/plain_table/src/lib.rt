@@ -21,16 +21,20 @@
 
 mod change_map;
 mod home_map;
+mod laying;
 mod logged;
 mod made;
+mod merging;
 mod replaying;
 mod sync;
 mod table;
 
 pub use change_map::ChangeMap;
 pub use home_map::HomeMap;
+pub use laying::laid_over;
 pub use logged::{KeptLogs, LoggedPlainTable, sync_logged};
 pub use made::{count_entries, counted, from_classes};
+pub use merging::{push_all, push_below};
 pub use replaying::{last_changes, left_in};
 pub use sync::{SWAP_AGE, SWAP_KEYS};
 pub use table::{PlainTable, entry_at, found_over};
