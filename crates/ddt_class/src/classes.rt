@@ -119,15 +119,6 @@ impl Classes {
         self.unique.find(key).or(self.duplicate.find(key))
     }
 
-    /// All entries, sorted by key. The error is want of memory.
-    pub fn listed(&self, alloc: Global) -> Result<Vec<Entry>, AllocError>
-        ensures { IfOk result (λ list. list.items ≡ self.now) }
-    {
-        let unique = self.unique.entries(alloc)?;
-        let duplicate = self.duplicate.entries(alloc)?;
-        Ok(merged(alloc, unique.as_slice(), duplicate.as_slice())?.into_vec())
-    }
-
     /// The home of a key. Takes no memory. Over lists in memory no sector is read, and there is no fault.
     pub fn find<D: Disk, P: PageReader<D>>(
         &self,
@@ -188,6 +179,15 @@ impl Classes {
         let before = alone.or(shared);
         self.counts -= u128::from(count_of(before));
         Ok(before)
+    }
+
+    /// All entries, sorted by key. Reads no sector. The error is want of memory.
+    pub fn listed(&self, alloc: Global) -> Result<Vec<Entry>, AllocError>
+        ensures { IfOk result (λ list. list.items ≡ self.now) }
+    {
+        let unique = self.unique.entries(alloc)?;
+        let duplicate = self.duplicate.entries(alloc)?;
+        Ok(merged(alloc, unique.as_slice(), duplicate.as_slice())?.into_vec())
     }
 
     /// All entries, sorted by key. The error is want of memory.

@@ -9,7 +9,8 @@
 //! look-up or a change takes a time of the logarithm of their sizes in both. The number of entries, of those
 //! of each class, and of the pointers that the homes count together are kept, and told at once. Calls take
 //! the disk and a reader of its pages, though no sector is read yet. `find` and `take_out` then never fail,
-//! and `put` and `entries` fail for want of memory alone.
+//! and `put` and `entries` fail for want of memory alone. `home_of` and `listed` are `find` and `entries` for
+//! who has no disk at hand.
 //!
 //! Laws of `proofs/`: a sorted list comes back of the entries that pass a test and of those that don't
 //! (`Splits.merged-split`), and each class of a table in which a home is set or a key is dropped is the old

@@ -4,6 +4,7 @@ ghost use Rattle.grant_book.specs.Sectors.{free_from, free_sectors, marked, AreF
 ghost use Rattle.grant_book.specs.Book.{Book, kept, settled, unmarked, IsTaken, IsGranted};
 
 use crate::grant::Grant;
+use crate::search::{count_free, first_free};
 use crate::{PlaceList, SectorSet};
 use std::alloc::{AllocError, Global};
 use std::marker::Model;
@@ -25,19 +26,6 @@ impl Model for GrantBook {
     ghost view = { λ book. record { used = book.used.items; pending = book.pending.items } };
 
     ghost invariant = { λ book. IsBook book.used.items book.pending.items book.free book.low };
-}
-
-/// How many of these sectors aren't used.
-fn count_free(used: &[bool]) -> u64
-    ensures { result ≡ count_by not used.now }
-{
-    let mut count = 0;
-    'sectors: for is_used in used {
-        if !*is_used {
-            count += 1;
-        }
-    }
-    count
 }
 
 /// Uses a sector and puts it behind the places that were found, where it isn't used.
@@ -160,19 +148,22 @@ impl GrantBook {
         self.free
     }
 
-    /// The first sectors that aren't used, in rising order, as many as are wanted; `None` where there are
-    /// fewer. Marks none. The error is want of memory.
+    /// The first sectors that are free, in rising order, as many as are wanted; `None` where there are fewer.
+    /// None of them is used by this. The error is want of memory.
     pub fn free_places(&self, alloc: Global, wanted: u64) -> Result<Option<PlaceList>, AllocError>
         ensures { IfOk result (FindsFree self.now.used wanted) }
     {
-        Err(AllocError)
+        if self.free < wanted {
+            return Ok(None);
+        }
+        Ok(Some(first_free(alloc, self.used.as_slice(), self.low, wanted)?))
     }
 
-    /// Which sectors are used, pending or not. The error is want of memory.
+    /// The set of the sectors that are used, pending or not. The error is want of memory.
     pub fn used(&self, alloc: Global) -> Result<SectorSet, AllocError>
         ensures { IfOk result (λ set. set ≡ self.now.used) }
     {
-        Err(AllocError)
+        SectorSet::of_notes(alloc, self.used.as_slice())
     }
 
     /// Notes in a set which sectors are used and not pending.

@@ -12,31 +12,34 @@
 //! released, since a group names it no more, is pending until `settle`, which a sync calls at its end: the
 //! newest sealed group may still name it until then, and nothing else is written there. So a sector is used,
 //! pending or free, and a place that is given out was free, is given out once, and isn't pending
-//! (`specs/Book.antt`). No call but `grant` takes memory; the set has brought the room to note what is pending.
+//! (`specs/Book.antt`). `grant` takes memory, and so do `free_places`, which uses none of the places that it finds, and
+//! `used`, which makes a set of the sectors that are used; for what is pending the set has brought the room.
 //!
 //! The number of free sectors is kept. A search goes on from where the last one ended, or from the lowest place
 //! that was given back since, and begins anew only after `settle`: giving out n places takes a step for each, and
-//! one for each used sector between them. `give_back` takes a step for each place, `of_used`, `settle` and
-//! `used_after` go over all sectors, and any other call of the book takes the same time in every pool.
+//! one for each used sector between them. `give_back` takes a step for each place, `of_used`, `settle`,
+//! `used` and `used_after` go over all sectors, and any other call of the book takes the same time in every pool.
 //!
 //! `LaneSlots` has what the slots hold that a lane's commands name, while the lane runs. A look-up takes a time of
 //! the logarithm of their number.
 #![tactic(auto)]
 
-ghost use Rattle.std.specs.Prelude.{◌≡◌, ◌+◌, ◌<◌, ◌≤◌, ◌++◌, true, false, not, length, drop, replicate, slice_index_or, slice_set, IfOk};
+ghost use Rattle.std.specs.Prelude.{◌≡◌, ◌<◌, ◌≤◌, true, false, not, length, replicate, slice_index_or, slice_set, IfOk};
 ghost use Rattle.std.specs.List.{count_by};
-ghost use Rattle.grant_book.specs.Sectors.{free_from, marked, ring_used, FindsFree};
+ghost use Rattle.grant_book.specs.Sectors.{marked, ring_used, FindsFree};
 ghost use Rattle.grant_book.specs.Book.{kept};
 
 mod book;
 mod grant;
 mod lane_slots;
+mod search;
 
 pub use book::GrantBook;
 pub use ddt_entry::{Pointer, SlotKind};
 pub use grant::Grant;
 pub use lane_slots::{LaneSlots, SlotView};
 use reserved_list::ReservedList;
+use search::{count_free, first_free};
 use std::alloc::{AllocError, Global};
 use std::marker::Model;
 
@@ -84,13 +87,20 @@ impl SectorSet {
         Ok(used)
     }
 
+    /// The set of these notes. The error is want of memory.
+    fn of_notes(alloc: Global, notes: &[bool]) -> Result<Self, AllocError>
+        ensures { IfOk result (λ set. set ≡ notes.now) }
+    {
+        let used = Vec::from_slice(alloc, notes)?;
+        let room = Vec::from_slice(alloc, notes)?;
+        Ok(SectorSet { used, room })
+    }
+
     /// Another set that says the same. The error is want of memory.
     pub fn copied(&self, alloc: Global) -> Result<Self, AllocError>
         ensures { IfOk result (λ copy. copy ≡ self.now) }
     {
-        let used = Vec::from_slice(alloc, self.used.as_slice())?;
-        let room = Vec::from_slice(alloc, self.room.as_slice())?;
-        Ok(SectorSet { used, room })
+        SectorSet::of_notes(alloc, self.used.as_slice())
     }
 
     /// How many sectors the pool has.
@@ -165,26 +175,7 @@ impl SectorSet {
     pub fn free(&self) -> u64
         ensures { result ≡ count_by not self.now }
     {
-        let mut count = 0;
-        'sectors: for used in &self.used {
-            if !*used {
-                count += 1;
-            }
-        }
-        count
-    }
-
-    /// Puts a sector behind the places that were found, where it isn't used.
-    fn put_free(&self, places: &mut PlaceList, sector: u64)
-        requires within { sector < length self.now }
-        requires room { 0 < places.old.spare }
-        ensures found { places.new.items ++ free_from (sector + 1) (drop (sector + 1) self.now) ≡ places.old.items ++ free_from sector (drop sector self.now) }
-        ensures few { length places.new.items ≤ length places.old.items + 1 }
-        ensures left { length places.new.items + places.new.spare ≡ length places.old.items + places.old.spare }
-    {
-        if !self.has(sector) {
-            places.push(sector);
-        }
+        count_free(self.used.as_slice())
     }
 
     /// The first sectors that aren't used, in rising order, as many as are wanted; `None` where there are
@@ -195,14 +186,6 @@ impl SectorSet {
         if self.free() < wanted {
             return Ok(None);
         }
-        let mut places = PlaceList::new(alloc);
-        places.reserve(wanted)?;
-        'search: for sector in 0..self.len() {
-            if places.len() == wanted {
-                return Ok(Some(places));
-            }
-            self.put_free(&mut places, sector);
-        }
-        Ok(Some(places))
+        Ok(Some(first_free(alloc, self.used.as_slice(), 0, wanted)?))
     }
 }

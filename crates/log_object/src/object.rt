@@ -64,13 +64,6 @@ impl LogObject {
         Ok(())
     }
 
-    /// All changes in the order in which they were appended. Takes no memory.
-    pub fn as_slice(&self) -> &[Change]
-        ensures { result.now ≡ self.now.changes }
-    {
-        self.changes.as_slice()
-    }
-
     /// All changes in the order in which they were appended. The error is want of memory.
     pub fn replay<D: Disk, P: PageReader<D>>(
         &self,
@@ -84,7 +77,7 @@ impl LogObject {
         ensures fits { P.fits reader.new disk.now }
         ensures count { P.faults reader.old ≤ P.faults reader.new }
     {
-        let changes = Vec::from_slice(alloc, self.changes.as_slice())?;
+        let changes = Vec::from_slice(alloc, self.as_slice())?;
         Ok(ChangeList::from_vec(changes))
     }
 
@@ -118,6 +111,13 @@ impl LogObject {
         ensures { result ≡ self.now.checkpoint }
     {
         self.checkpoint
+    }
+
+    /// The changes, in the order in which they were appended. Takes no memory.
+    pub fn as_slice(&self) -> &[Change]
+        ensures { result.now ≡ self.now.changes }
+    {
+        self.changes.as_slice()
     }
 
     /// How many changes there are. Takes no memory.

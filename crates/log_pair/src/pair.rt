@@ -1,9 +1,9 @@
-ghost use Rattle.std.specs.Prelude.{◌≡◌, ◌≤◌, ◌<◌, ◌^◌, [], fold, None, length, slice_get, Some, IfOk, IfErr, OnOk, OnErr};
+ghost use Rattle.std.specs.Prelude.{◌≡◌, ◌≤◌, ◌<◌, ◌^◌, [], fold, length, slice_get, Some, None, IfOk, IfErr, OnOk, OnErr};
 ghost use Rattle.std.specs.Option.{option_copied};
 ghost use Rattle.std.specs.Map.Iter.{ShowsInOrder, deref};
 ghost use Rattle.ddt_entry.specs.declared.entry.Change.{Change as Changed};
 ghost use Rattle.page_tree.specs.declared.fault.PageFault.TheVariants.{Memory};
-ghost use Rattle.pool_model.specs.Table.{change_at, AreRising, set_found};
+ghost use Rattle.pool_model.specs.Table.{AreRising, change_at, set_found};
 ghost use Rattle.pool_model.specs.Logs.{empty_logs};
 ghost use Rattle.plain_table.specs.Keyed.{first};
 ghost use Rattle.log_pair.specs.Paired.{IsReplayed, of_logs, with_change, popped, emptied_pair, swapped_pair, list_at, log_at};
@@ -12,7 +12,7 @@ use ddt_entry::{Change, Entry, Key, key_of};
 use disk_model::Disk;
 use log_object::LogObject;
 use page_tree::{PageFault, PageReader};
-use plain_table::{ChangeMap, last_changes, left_in};
+use plain_table::{ChangeMap, laid_over, last_changes, left_in};
 use std::alloc::{AllocError, Global};
 use std::collections::btree_map::Values;
 use std::marker::Model;
@@ -38,7 +38,7 @@ impl Model for LogPair {
 }
 
 impl LogPair {
-    /// Logs without changes. Takes no memory.
+    /// The pair of two logs without changes. Takes no memory.
     pub fn new(alloc: Global) -> LogPair
         ensures { result ≡ record { active = []; flush = []; logs = empty_logs; checkpoint = None } }
     {
@@ -50,26 +50,14 @@ impl LogPair {
         }
     }
 
-    /// All changes that were appended to the active log (0) or the flushing log (1) since it was last empty, in
-    /// their order. Takes no memory.
-    pub fn kept(&self, at: u32) -> &[Change]
-        requires { at < 2 }
-        ensures { result.now ≡ log_at at self.now.logs }
-    {
-        if at == 0 {
-            self.active_log.as_slice()
-        } else {
-            self.flushing_log.as_slice()
-        }
-    }
-
     /// The homes that are found where these are stored, which rise by key: the flushing list lies over them, and
     /// the active list over that. The error is want of memory.
     pub fn homes_found(&self, alloc: Global, stored: &[Entry]) -> Result<Vec<Entry>, AllocError>
         requires { AreRising stored.now }
         ensures { IfOk result (λ found. found.items ≡ fold set_found (fold set_found stored.now self.now.flush) self.now.active) }
     {
-        Err(AllocError)
+        let flushed = laid_over(alloc, stored, &self.flush)?;
+        laid_over(alloc, flushed.as_slice(), &self.active)
     }
 
     /// The pair of these logs, with the lists that they are replayed to. The error is want of memory.
@@ -216,6 +204,19 @@ impl LogPair {
         ensures runs { ShowsInOrder (deref {X = Changed}) }
     {
         self.list(at).walk()
+    }
+
+    /// The active log (0) or the flushing log (1): the changes that were appended to it since it was last
+    /// empty, in their order. Takes no memory.
+    pub fn kept(&self, at: u32) -> &[Change]
+        requires { at < 2 }
+        ensures { result.now ≡ log_at at self.now.logs }
+    {
+        if at == 0 {
+            self.active_log.as_slice()
+        } else {
+            self.flushing_log.as_slice()
+        }
     }
 
     /// How many changes were appended to the active log (0) or the flushing log (1) since it was last

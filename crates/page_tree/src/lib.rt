@@ -9,7 +9,7 @@
 //! caller proves that a part fits. What stands at an offset is read by `ddt_entry::fields`.
 //!
 //! `PageReader` reads the page of a pointer and compares its digest; `PlainReader` does so by one read
-//! of the disk.
+//! of the disk. `NoPages` is for objects that are held in memory and have no page.
 //!
 //! A chain keeps a list of records of 72 bytes, 56 on a page; each page names the next one.
 //! `write_chain` writes its pages from the last to the first, and its clause on crashes says that

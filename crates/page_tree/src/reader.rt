@@ -55,14 +55,15 @@ impl<D: Disk> PageReader<D> for PlainReader<D> {
     }
 }
 
-/// A reader for objects that are held in memory and have no page yet: it reads none, and each read fails.
+/// A reader for objects that are held in memory and have no page: each read fails, and is counted. It fits
+/// every disk.
 #[derive(Drop)]
 pub struct NoPages {
     faults: u64,
 }
 
 impl NoPages {
-    /// A reader that has not been asked yet.
+    /// A reader that no read has failed through yet.
     pub fn new() -> NoPages {
         NoPages { faults: 0 }
     }

@@ -1,6 +1,7 @@
 -- What a map's calls make of the list of its entries.
 use Rattle.std.proofs.Common.{◌≡◌, Bool, true, false, cond, not, List, [], ◌∷◌, length, find, Some, refl, sym, ap, subst, ◌∙◌, arith}
 use Rattle.std.specs.Prelude.{if◌then◌else◌}
+use Rattle.std.specs.List.{AllByRecursion}
 use Rattle.std.specs.Map.{lookup, remove_entry}
 use Rattle.std.specs.BTreeMap.{insert_entry, is_at}
 use Rattle.std.specs.Option.{option_map}
@@ -14,12 +15,27 @@ use Rattle.ddt_entry.specs.declared.entry.Entry.{Entry}
 use Rattle.ddt_entry.proofs.KeyLaws.{exact_keys, is_eq-key_cmp, key_eq-symm, key_eq-true}
 use Rattle.pool_model.specs.Table.{AreRising, entry_at, set_entry, drop_entry}
 use Rattle.pool_model.proofs.Lists.{all_from, filter_whole, pairs_filter}
-use Rattle.pool_model.proofs.Sorted.{rising_put}
+use Rattle.pool_model.proofs.Sorted.{rising_put, less_of}
 use Rattle.pool_model.proofs.TablePuts.{entries_put, apart_by_order}
 use Rattle.plain_table.specs.HomeLists.{entry_of, entries_of}
 
 abbrev pub Below : Entry → Entry → Type 0
 Below a b = is_lt (key_cmp a.key b.key) ≡ true
+
+-- an entry that is below all others is set in front of them
+pub set_first : (entry : Entry) (es : List Entry) → AllByRecursion (Below entry) es → set_entry entry es ≡ entry ∷ es
+set_first entry [] above = refl
+set_first entry (e ∷ es) above =
+    ap (λ (o : Ordering). if is_lt o then entry ∷ e ∷ es else (if is_eq o then entry ∷ es else e ∷ set_entry entry es))
+    (less_of (key_cmp entry.key e.key) above.0)
+
+-- a key that is below all others is not there to be dropped
+pub drop_above : (key : Key) (es : List Entry) → AllByRecursion (λ (e : Entry). is_lt (key_cmp key e.key) ≡ true) es
+    → drop_entry key es ≡ es
+drop_above key es above =
+    filter_whole (λ (e : Entry). not (key_eq e.key key)) es
+    (all_from (λ (e : Entry). is_lt (key_cmp key e.key) ≡ true) (λ (e : Entry). not (key_eq e.key key) ≡ true)
+    (λ e less. ap not (key_eq-symm e.key key ∙ apart_by_order key e.key less)) es above)
 
 tells : (key other : Key) → is_at (key_cmp key) other ≡ key_eq other key
 tells key other = is_eq-key_cmp key other ∙ key_eq-symm key other
@@ -69,10 +85,9 @@ entries_of-remove key (pair ∷ pairs) rising =
         → entries_of (cond b pairs (pair ∷ remove_entry (is_at (key_cmp key)) pairs)) ≡ cond (not b)
         (entry_of pair ∷ drop_entry key (entries_of pairs)) (drop_entry key (entries_of pairs))
     by_test rest true here =
-        sym (filter_whole (λ (e : Entry). not (key_eq e.key key)) (entries_of pairs)
-        (all_from (Below (entry_of pair)) (λ (e : Entry). not (key_eq e.key key) ≡ true)
-        (λ e less. ap not (ap (key_eq e.key) (sym (key_eq-true pair.0 key here)) ∙ key_eq-symm e.key pair.0
-        ∙ apart_by_order pair.0 e.key less)) (entries_of pairs) rising.0))
+        sym (drop_above key (entries_of pairs)
+        (subst (λ (k : Key). AllByRecursion (λ (e : Entry). is_lt (key_cmp k e.key) ≡ true) (entries_of pairs))
+        (key_eq-true pair.0 key here) rising.0))
     by_test rest false here = ap (λ (es : List Entry). entry_of pair ∷ es) rest
 
 -- ---- They rise

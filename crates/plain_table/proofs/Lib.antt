@@ -3,3 +3,4 @@ pub mod Entries
 pub mod Undo
 pub mod Replayed
 pub mod NextLogs
+pub mod Laid

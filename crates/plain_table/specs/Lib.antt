@@ -2,3 +2,4 @@ pub mod HomeLists
 pub mod Keyed
 pub mod Logged
 pub mod Tables
+pub mod Merging

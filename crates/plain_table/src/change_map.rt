@@ -145,6 +145,7 @@ impl ChangeMap {
     pub fn walk(&self) -> Values<'_, Key, Change>
         ensures rest { result ≡ self.now }
         ensures runs { ShowsInOrder (deref {X = Changed}) }
+        ensures rising { AreChangesRising self.now }
     {
         self.changes.values()
     }

@@ -1,5 +1,5 @@
-ghost use Rattle.std.specs.Prelude.{◌≡◌, ◌<◌, ◌^◌, [], length, IfOk, OnOk, OnErr};
-ghost use Rattle.pool_model.specs.Table.{entry_at, set_entry, drop_entry};
+ghost use Rattle.std.specs.Prelude.{◌≡◌, ◌<◌, ◌^◌, [], length, None, IfOk, OnOk, OnErr};
+ghost use Rattle.pool_model.specs.Table.{AreRising, entry_at, set_entry, drop_entry};
 
 use ddt_entry::{Entry, Home, Key};
 use std::alloc::{AllocError, Global};
@@ -47,6 +47,13 @@ impl HomeMap {
         Ok(copy)
     }
 
+    /// The entries rise by key. It does nothing.
+    pub(crate) fn is_rising(&self)
+        ensures { AreRising self.now }
+    {
+        let _homes = &self.homes;
+    }
+
     /// How many keys have a home.
     pub fn len(&self) -> u64
         ensures count { result ≡ length self.now }
@@ -68,6 +75,7 @@ impl HomeMap {
         ensures before { IfOk result (λ before. before ≡ entry_at key.now self.old) }
         ensures set { OnOk result (self.new ≡ set_entry (record { key = key.now; home = home }) self.old) }
         ensures refused { OnErr result (self.new ≡ self.old) }
+        ensures absent { OnErr result (entry_at key.now self.old ≡ None) }
     {
         let before = self.homes.insert(*key, home)?;
         Ok(before)

@@ -15,21 +15,26 @@
 //! appended, until the log is emptied. `sync_logged` is a sync of both; `last_changes` and `left_in` are what
 //! the two are replayed to.
 //!
-//! `from_classes` makes the stored table of an image; `entries_found` lists the homes that the table finds.
+//! `from_classes` makes the stored table of an image; `entries_found` lists the homes that the table finds,
+//! and `counted` keeps those that pointers are counted of.
 #![tactic(auto)]
 
 mod change_map;
 mod home_map;
+mod laying;
 mod logged;
 mod made;
+mod merging;
 mod replaying;
 mod sync;
 mod table;
 
 pub use change_map::ChangeMap;
 pub use home_map::HomeMap;
+pub use laying::laid_over;
 pub use logged::{KeptLogs, LoggedPlainTable, sync_logged};
-pub use made::{count_entries, from_classes};
+pub use made::{count_entries, counted, from_classes};
+pub use merging::{push_all, push_below};
 pub use replaying::{last_changes, left_in};
 pub use sync::{SWAP_AGE, SWAP_KEYS};
 pub use table::{PlainTable, entry_at, found_over};

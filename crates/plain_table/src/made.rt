@@ -1,9 +1,10 @@
-ghost use Rattle.std.specs.Prelude.{◌≡◌, ◌==◌, ◌<◌, ◌^◌, IfOk, OnOk, fold, filter, length};
-ghost use Rattle.pool_model.specs.Table.{AreRising, set_entry, set_found, entries_found, waiting_in};
+ghost use Rattle.std.specs.Prelude.{◌≡◌, ◌==◌, ◌<◌, ◌^◌, nat_lt, IfOk, OnOk, length, fold, filter};
+ghost use Rattle.pool_model.specs.Table.{AreRising, set_entry, entries_found, waiting_in};
 
 use crate::home_map::HomeMap;
+use crate::laying::laid_over;
 use crate::table::PlainTable;
-use ddt_entry::{Change, Entry};
+use ddt_entry::Entry;
 use std::alloc::{AllocError, Global};
 
 /// Sets these entries in a table, one after another. The error is want of memory.
@@ -32,42 +33,15 @@ pub fn from_classes(
     Ok(stored)
 }
 
-/// What a change makes of the homes that are found: an entry's is set, a key that is gone goes.
-fn set_found(found: &mut HomeMap, change: &Change) -> Result<(), AllocError>
-    ensures { OnOk result (found.new ≡ set_found found.old change.now) }
-{
-    match change {
-        Change::Entry(entry) => {
-            found.set(&entry.key, entry.home)?;
-        }
-        Change::Gone(key) => {
-            found.take_out(key);
-        }
-    }
-    Ok(())
-}
-
-/// What these changes make of the homes that are found.
-fn all_found(found: &mut HomeMap, log: &[Change]) -> Result<(), AllocError>
-    ensures { OnOk result (found.new ≡ fold set_found found.old log.now) }
-{
-    'changes: for change in log {
-        set_found(found, change)?;
-    }
-    Ok(())
-}
-
 impl PlainTable {
     /// All homes that the table finds, sorted by key. The error is want of memory.
     pub fn entries_found(&self, alloc: Global) -> Result<Vec<Entry>, AllocError>
         ensures { IfOk result (λ found. found.items ≡ entries_found self.now) }
     {
-        let flushing = self.flush.changes(alloc)?;
-        let active = self.active.changes(alloc)?;
-        let mut found = self.zap.copied(alloc)?;
-        all_found(&mut found, flushing.as_slice())?;
-        all_found(&mut found, active.as_slice())?;
-        found.entries(alloc)
+        self.zap.is_rising();
+        let stored = self.zap.entries(alloc)?;
+        let flushed = laid_over(alloc, stored.as_slice(), &self.flush)?;
+        laid_over(alloc, flushed.as_slice(), &self.active)
     }
 
     /// The homes whose places are kept though no pointer is counted, sorted by key. The error is want of
@@ -80,18 +54,26 @@ impl PlainTable {
     }
 }
 
+/// The entries with a count above 0. Takes no memory.
+pub fn counted(mut entries: Vec<Entry>) -> Vec<Entry>
+    ensures { result.items ≡ filter (λ entry. nat_lt 0 entry.home.count) entries.items }
+{
+    entries.retain(|entry| entry.home.count > 0);
+    entries
+}
+
+/// How many entries a list has: each takes 72 bytes.
+pub fn count_entries(entries: &[Entry]) -> u64
+    ensures count { result ≡ length entries.now }
+    ensures few { result < 2 ^ 62 }
+{
+    entries.len() as u64
+}
+
 /// The entries with a count of 0.
 fn not_counted(mut entries: Vec<Entry>) -> Vec<Entry>
     ensures { result.items ≡ filter (λ entry. entry.home.count == 0) entries.items }
 {
     entries.retain(|entry| entry.home.count == 0);
     entries
-}
-
-/// How many items a list of entries has: each takes 72 bytes.
-pub fn count_entries(entries: &[Entry]) -> u64
-    ensures count { result ≡ length entries.now }
-    ensures few { result < 2 ^ 62 }
-{
-    entries.len() as u64
 }

@@ -1,6 +1,0 @@
-use Rattle.std.proofs.Common.{◌≡◌, ◌≤◌, not, take}
-use Rattle.std.specs.List.{count_by}
-use Rattle.grant_book.proofs.SectorSet.free.Given as goal
-
-abbrev pub invariant-sectors : goal.invariant-sectors
-invariant-sectors l = (l.count ≡ count_by not (take l.used-index l.self)) × (l.count ≤ l.used-index)
