@@ -96,13 +96,6 @@ impl SectorSet {
         Ok(SectorSet { used, room })
     }
 
-    /// Another set that says the same. The error is want of memory.
-    pub fn copied(&self, alloc: Global) -> Result<Self, AllocError>
-        ensures { IfOk result (λ copy. copy ≡ self.now) }
-    {
-        SectorSet::of_notes(alloc, self.used.as_slice())
-    }
-
     /// How many sectors the pool has.
     pub fn len(&self) -> u64
         ensures { result ≡ length self.now }

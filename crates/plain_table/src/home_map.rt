@@ -1,5 +1,5 @@
 ghost use Rattle.std.specs.Prelude.{◌≡◌, ◌<◌, ◌^◌, [], length, None, IfOk, OnOk, OnErr};
-ghost use Rattle.pool_model.specs.Table.{AreRising, entry_at, set_entry, drop_entry};
+ghost use Rattle.pool_model.specs.Table.{entry_at, set_entry, drop_entry};
 
 use ddt_entry::{Entry, Home, Key};
 use std::alloc::{AllocError, Global};
@@ -45,13 +45,6 @@ impl HomeMap {
             copy.set(key, *home)?;
         }
         Ok(copy)
-    }
-
-    /// The entries rise by key. It does nothing.
-    pub(crate) fn is_rising(&self)
-        ensures { AreRising self.now }
-    {
-        let _homes = &self.homes;
     }
 
     /// How many keys have a home.

@@ -69,16 +69,6 @@ impl PlainTable {
     }
 }
 
-/// The stored home of a key.
-pub fn entry_at(entries: &[Entry], key: &Key) -> Option<Home>
-    ensures { result ≡ entry_at key.now entries.now }
-{
-    entries
-        .iter()
-        .find(|entry| entry.key == *key)
-        .map(|entry| entry.home)
-}
-
 /// A change's home, or else what stands below it.
 pub fn found_over(below: Option<Home>, change: Option<Change>) -> Option<Home>
     ensures { result ≡ found_over below change }

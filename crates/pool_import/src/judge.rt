@@ -18,11 +18,12 @@ ghost use Rattle.pool_import.specs.Lengths.{HasLengths};
 ghost use Rattle.pool_import.specs.Whole.{IsWhole};
 
 use crate::flat::FlatImage;
-use crate::judge_counts::{are_counted, only_counted, sums_agree};
+use crate::judge_counts::{are_counted, sums_agree};
 use crate::judge_places::{are_clear, are_owned, mark_spots, take_waiting};
 use crate::marks::{Spot, spots_of};
 use ddt_entry::Entry;
 use grant_book::SectorSet;
+use plain_table::counted;
 use std::alloc::{AllocError, Global};
 use table_state::DedupTable;
 use uber_ring::{Seal, seal_fits};
@@ -67,7 +68,7 @@ fn judged(
     let spots = known.as_slice();
     let named = flat.named.as_slice();
     let taken = sectors_taken(alloc, seal.sectors, named, spots, found.as_slice())?;
-    let homes = only_counted(found);
+    let homes = counted(found);
     if !counts_hold(alloc, seal, homes.as_slice(), spots, flat.named.len())? {
         return Ok(None);
     }

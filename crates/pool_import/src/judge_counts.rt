@@ -10,14 +10,6 @@ use plain_table::count_entries;
 use std::alloc::{AllocError, Global};
 use uber_ring::Seal;
 
-/// The entries with a count above 0.
-pub fn only_counted(mut entries: Vec<Entry>) -> Vec<Entry>
-    ensures { result.items ≡ filter (λ entry. nat_lt 0 entry.home.count) entries.items }
-{
-    entries.retain(|entry| entry.home.count > 0);
-    entries
-}
-
 /// How many slots the table counts under the key of each of these homes, which rise by key. The error is
 /// want of memory.
 fn tallies_of(alloc: Global, homes: &[Entry], spots: &[Spot]) -> Result<Vec<u64>, AllocError>

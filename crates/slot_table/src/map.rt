@@ -60,13 +60,6 @@ impl SlotMap {
         Ok(())
     }
 
-    /// The slots rise. It does nothing.
-    pub fn are_rising(&self)
-        ensures { AreRisingSlots self.now }
-    {
-        let _pointers = &self.pointers;
-    }
-
     /// How many slots hold a pointer. Takes no memory.
     pub fn len(&self) -> u64
         ensures { result ≡ length self.now }
@@ -132,16 +125,5 @@ impl SlotMap {
             })?;
         }
         Ok(list)
-    }
-
-    /// Another map that says the same. The error is want of memory.
-    pub fn copied(&self, alloc: Global) -> Result<SlotMap, AllocError>
-        ensures { IfOk result (λ copy. copy ≡ self.now) }
-    {
-        let mut copy = SlotMap::new(alloc);
-        'pointers: for (place, pointer) in &self.pointers {
-            copy.hold(*place, *pointer)?;
-        }
-        Ok(copy)
     }
 }

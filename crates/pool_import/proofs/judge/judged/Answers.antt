@@ -14,14 +14,14 @@ spots_of-requires c = found_rising c.args.table.now.table c.as_slice.result.now 
 pub counts_hold-requires : goal.counts_hold-requires
 counts_hold-requires c =
     homes_rising c.args.table.now.table c.in_ok-found.found.items c.as_slice-4.result.now c.requires.sorted c.in_ok-found.ensures
-    (c.as_slice-4.ensures.value ∙ c.only_counted-homes.ensures)
+    (c.as_slice-4.ensures.value ∙ c.counted-homes.ensures)
 
 pub returns-then-not-branch-clause-judged : goal.returns-then-not-branch-clause-judged
 returns-then-not-branch-clause-judged c =
     let made : Made c.args.seal.now c.args.flat.now c.args.table.now.table c.as_slice.result.now c.as_slice-4.result.now
     c.as_slice-spots.result.now c.len.result = record {
       entries_are = c.as_slice.ensures.value ∙ c.in_ok-found.ensures;
-      homes_are = c.as_slice-4.ensures.value ∙ c.only_counted-homes.ensures
+      homes_are = c.as_slice-4.ensures.value ∙ c.counted-homes.ensures
           ∙ ap (filter (λ (entry : Entry). nat_lt 0 entry.home.count)) (sym c.as_slice.ensures.value);
       spots_are = c.as_slice-spots.ensures.value ∙ c.in_ok-known.ensures
           ∙ ap (map (spot_among c.as_slice.result.now)) (c.as_slice-2.ensures ∙ ap (λ (f : Flat). f.slots) c.flat.view_is);
@@ -35,7 +35,7 @@ returns-clause-judged c =
     let made : Made c.args.seal.now c.args.flat.now c.args.table.now.table c.as_slice.result.now c.as_slice-4.result.now
     c.as_slice-spots.result.now c.len.result = record {
       entries_are = c.as_slice.ensures.value ∙ c.in_ok-found.ensures;
-      homes_are = c.as_slice-4.ensures.value ∙ c.only_counted-homes.ensures
+      homes_are = c.as_slice-4.ensures.value ∙ c.counted-homes.ensures
           ∙ ap (filter (λ (entry : Entry). nat_lt 0 entry.home.count)) (sym c.as_slice.ensures.value);
       spots_are = c.as_slice-spots.ensures.value ∙ c.in_ok-known.ensures
           ∙ ap (map (spot_among c.as_slice.result.now)) (c.as_slice-2.ensures ∙ ap (λ (f : Flat). f.slots) c.flat.view_is);
