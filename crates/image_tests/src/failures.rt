@@ -119,7 +119,12 @@ fn assert_refused(
 ) {
     let made = calls_of(disk);
     let synced = pool.synced(rt, alloc, disk, closed);
-    assert_same(rt, "the fault", fault_of(synced), Some(SyncFault::Damaged(0)));
+    assert_same(
+        rt,
+        "the fault",
+        fault_of(synced),
+        Some(SyncFault::Damaged(0)),
+    );
     assert_same(rt, "the calls", calls_of(disk), made);
 }
 

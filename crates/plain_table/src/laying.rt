@@ -68,11 +68,7 @@ pub fn laid_over(
 }
 
 /// The walk over both. The error is want of memory.
-fn walk_both(
-    alloc: Global,
-    stored: &[Entry],
-    changes: &ChangeMap,
-) -> Result<Vec<Entry>, AllocError>
+fn walk_both(alloc: Global, stored: &[Entry], changes: &ChangeMap) -> Result<Vec<Entry>, AllocError>
     requires { AreRising stored.now }
     ensures { IfOk result (λ laid. laid.items ≡ fold set_found stored.now changes.now) }
 {
