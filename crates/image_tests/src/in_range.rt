@@ -1,7 +1,8 @@
 //! Whether a group is in its ranges: the premise of a sync on the numbers of its group, as a test.
 
-ghost use Rattle.std.specs.Prelude.{◌≡◌, ◌≤◌, ◌<◌, true, false, length, map, Some, None, IfOk};
+ghost use Rattle.std.specs.Prelude.{◌≡◌, ◌≤◌, ◌<◌, true, length, map, Some, None, is_some, IfOk};
 ghost use Rattle.std.specs.List.{AllByRecursion};
+ghost use Rattle.std.specs.Option.{option_copied};
 ghost use Rattle.ddt_entry.specs.declared.entry.Home.{Home};
 ghost use Rattle.ddt_entry.specs.declared.key.Key.{Key as AKey};
 ghost use Rattle.pool_model.specs.Mirrors.{stored_of};
@@ -89,7 +90,8 @@ fn counts_within(alloc: Global, pool: &Pool, closed: &Closed) -> Result<bool, Al
         → home.count ≤ length (slots_after closed.now.slots.items pool.now.slots)) }
 {
     let most = slots_then(alloc, &pool.slots, closed.slots.as_slice())?;
-    table_counts(alloc, &pool.table, closed.changes.as_slice(), most)
+    let within = table_counts(alloc, &pool.table, closed.changes.as_slice(), most)?;
+    Ok(within)
 }
 
 /// Whether each home of a table counts at most so many pointers after a group with these changes, which rise by key.
@@ -138,11 +140,28 @@ fn comes_behind(last: &Option<Change>, change: &Change) -> bool
     }
 }
 
+/// The change of a key.
+fn change_of<'a>(changes: &'a [Change], key: &Key) -> Option<&'a Change>
+    ensures { option_copied result ≡ change_at key.now changes.now }
+{
+    changes.iter().find(|change| key_of(change) == *key)
+}
+
 /// Whether a change names a key.
 fn is_changed(changes: &[Change], key: &Key) -> bool
-    ensures { result ≡ false → change_at key.now changes.now ≡ None }
+    ensures { result ≡ is_some (change_at key.now changes.now) }
 {
-    changes.iter().any(|change| key_of(change) == *key)
+    change_of(changes, key).is_some()
+}
+
+/// Whether a home counts at most so many pointers, where no change names it.
+fn stays_within(home: &Entry, changes: &[Change], most: u64) -> bool
+    ensures { result ≡ true → StaysAtMost most changes.now home.now }
+{
+    if home.home.count <= most {
+        return true;
+    }
+    is_changed(changes, &home.key)
 }
 
 /// Whether each home that no change names counts at most so many pointers.
@@ -150,7 +169,7 @@ fn homes_count(homes: &[Entry], changes: &[Change], most: u64) -> bool
     ensures { result ≡ true → AllByRecursion (StaysAtMost most changes.now) homes.now }
 {
     'homes: for entry in homes {
-        if entry.home.count > most && !is_changed(changes, &entry.key) {
+        if !stays_within(entry, changes, most) {
             return false;
         }
     }
