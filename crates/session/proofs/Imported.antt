@@ -9,9 +9,11 @@ use Rattle.pool_model.specs.Table.{TableState}
 use Rattle.pool_model.specs.Group.{Standing}
 use Rattle.pool_model.specs.declared.faults.SyncFault.{SyncFault}
 use Rattle.pool_model.specs.declared.faults.SyncFault.TheVariants.{ReadFault, WriteFault, GateFault, Damaged, Memory}
+use Rattle.pool_model.specs.Run.{first_standing}
 use Rattle.table_state.specs.Flat.{StandsFor, IsDamaged}
 use Rattle.table_state.specs.Pools.{Held, IsHeld}
 use Rattle.table_state.proofs.Held.{over_held}
+use Rattle.txg_sync.specs.Creating.{Creates}
 use Rattle.session.specs.Faults.{status_of}
 use Rattle.session.specs.Origins.{origin, may_begin}
 use Rattle.session.specs.StageEntries.{IsOver, StandsForTold}
@@ -35,6 +37,20 @@ found_over tag old new held found s tag_is found_tag_is given over stays quiet =
       stands = over_held over.image found there.0 there.1 s there.2
           (over_holds old held s found.tag over (tag_is ∙ sym found_tag_is));
     }
+
+-- contents that stay tell the pool that they told
+pub told_stays : (old new : Option Image) (held : Held) → (old ≡ None → new ≡ None) → Stays old new
+    → IfSome old (λ image. (pool : Pool) × (table : TableState) × IsHeld image held pool table) → StandsForTold new held
+told_stays None new held untold stays is = subst (λ (o : Option Image). StandsForTold o held) (sym (untold refl)) tt
+told_stays (Some image) new held untold stays is = subst (λ (o : Option Image). StandsForTold o held) (sym stays) is
+
+-- and those of a pool that was created tell the new one
+pub told_created : (old new : Option Image) (sectors : ℕ) (held : Held) → (old ≡ None → new ≡ None) → Creates old new sectors held
+    → StandsForTold new held
+told_created None new sectors held untold is = subst (λ (o : Option Image). StandsForTold o held) (sym (untold refl)) tt
+told_created (Some image) new sectors held untold (c, told, over) =
+    subst (λ (o : Option Image). StandsForTold o held) (sym told)
+    ((first_standing sectors).pool, (first_standing sectors).table, over.is_held)
 
 -- where a pool is told there is no damage
 pub not_damaged : (tag : ℕ) (old : Option Image) (held : Held) (image : Image) → held.tag ≡ tag → StandsForTold old held → old ≡ Some image

@@ -27,6 +27,7 @@ pub(crate) fn find_pool<D: Disk, K: KeyOf>(
     ensures reads { (D.state disk.old).read_faults ≤ (D.state disk.new).read_faults }
     ensures writes { (D.state disk.old).write_faults ≤ (D.state disk.new).write_faults }
 {
+    crash_laws(disk);
     let found = import(alloc, disk, keyer);
     crash_laws(disk);
     match found {

@@ -52,8 +52,8 @@ fn refuse(note: &mut GroupNote, fault: GroupFault) -> Result<(), Status>
     }
 }
 
-/// Syncs what the lanes of a group left, and notes that the group was sealed. After a fault the note is as it was,
-/// and so is the pool.
+/// Syncs what the lanes of a group left, and notes that the group was sealed. After a fault the note is as it was, and
+/// the pool is given up.
 fn seal_run<D: Disk>(
     alloc: Global,
     pool: &mut Pool,

@@ -105,6 +105,7 @@ fn seal_empty_pool<D: Disk>(alloc: Global, disk: &mut D, tag: u8) -> Result<Pool
     ensures writes { (D.state disk.old).write_faults ≤ (D.state disk.new).write_faults }
 {
     let _sectors = disk.sectors();
+    crash_laws(disk);
     let made = create(alloc, disk, tag);
     crash_laws(disk);
     match made {
