@@ -108,7 +108,13 @@ pub fn plan_group<D: Disk>(
         homes.as_slice(),
         pages.len(),
     );
-    let used = used_after(alloc, pool.sectors, pages.as_slice(), slots, homes.as_slice())?;
+    let used = used_after(
+        alloc,
+        pool.sectors,
+        pages.as_slice(),
+        slots,
+        homes.as_slice(),
+    )?;
     pool.keys = seal.homes;
     pool.pages = pages;
     pool.book = GrantBook::of_used(used);
