@@ -88,7 +88,8 @@ pub same_kept : (table table' : TableState) (logs logs' : Logs) → table ≡ ta
 same_kept table table' logs logs' et el = cc
 
 -- a pool in memory that agrees with what an image stands for
-made_held : (c : Image) (next : Held) → IsSound next → (pool : Pool) (table : TableState) (tag : ℕ) → next.tag ≡ tag → (state : StandsFor tag c pool table)
+made_held : (c : Image) (next : Held) → IsSound next → (pool : Pool) (table : TableState) (tag : ℕ) → next.tag ≡ tag
+    → (state : StandsFor tag c pool table)
     → next.slots ≡ state.flat.slots → next.logs ≡ logs_in state.flat → next.pages ≡ state.flat.named → next.sectors ≡ state.seal.sectors
     → next.table ≡ table → next.used ≡ used_sectors next.sectors next.pages pool table → next.modes ≡ pool.modes → next.quota ≡ pool.quota
     → next.group ≡ pool.group → IsHeld c next pool table

@@ -140,17 +140,16 @@ module _ (used : List Bool) (contents : List Stored) where
         vacant = all_from (IsFree (marked used (block_places contents))) IsVacant vacant_from places
             (found-free (marked used (block_places contents)) wanted places found)
 
--- what a search found in a copy in which the blocks were marked, shared out
-pub placed_by_steps : (used copied taken : List Bool) (contents : List Stored)
+-- what a search found in a set in which the blocks were marked, shared out
+pub placed_by_steps : (used taken : List Bool) (contents : List Stored)
     (ring : (sector : ℕ) → sector < 32 → slice_index_or used sector true ≡ true) (lists seen : List (Listed (List ℕ))) (wanted : ℕ)
     (found : Option (Listed ℕ)) (places : Listed ℕ)
     (given : List ℕ) (parts : List ChainPart)
-    → copied ≡ used → taken ≡ marked copied (block_places contents) → seen ≡ lists → wanted ≡ pages_of (map (λ l. l.items) seen)
+    → taken ≡ marked used (block_places contents) → seen ≡ lists → wanted ≡ pages_of (map (λ l. l.items) seen)
     → FindsFree taken wanted found → found ≡ Some places → given ≡ places.items → parts ≡ parts_of (map (λ l. l.items) lists) given
     → ArePlaced used contents (map (λ l. l.items) lists) parts
-placed_by_steps used copied taken contents ring lists seen wanted found places given parts copy marks same count finds is named shared =
+placed_by_steps used taken contents ring lists seen wanted found places given parts marks same count finds is named shared =
     placed used contents ring (map (λ (l : Listed (List ℕ)). l.items) lists) places.items wanted parts
-    (subst (λ (ts : List Bool). AreFirstFree ts wanted places.items)
-    (marks ∙ ap (λ (us : List Bool). marked us (block_places contents)) copy) (subst (FindsFree taken wanted) is finds))
+    (subst (λ (ts : List Bool). AreFirstFree ts wanted places.items) marks (subst (FindsFree taken wanted) is finds))
     (count ∙ ap (λ (ls : List (Listed (List ℕ))). pages_of (map (λ (l : Listed (List ℕ)). l.items) ls)) same)
     (shared ∙ ap (parts_of (map (λ (l : Listed (List ℕ)). l.items) lists)) named)

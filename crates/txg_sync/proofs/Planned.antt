@@ -13,12 +13,12 @@ use Rattle.table_state.specs.Pools.{Held, slots_after, pool_after}
 use Rattle.table_state.specs.Sealed.{ChainPart, places_in, records_in, seal_of}
 use Rattle.table_state.specs.SlotRecords.{is_slot}
 use Rattle.table_state.specs.Sound.{IsSound, HasKeyLengths}
-use Rattle.table_state.specs.Tables.{IsTableWithin, HaveKeyLengths}
+use Rattle.table_state.specs.Tables.{IsTableWithin}
 use Rattle.slot_table.specs.declared.slot.SlotRecord.{SlotRecord}
 use Rattle.pool_model.proofs.Lists.{all_from}
 use Rattle.table_state.proofs.SlotLaws.{is_slot-from}
 use Rattle.table_state.proofs.SlotsAfter.{within_after, within_later}
-use Rattle.table_state.proofs.Syncing.{sync_within, sync_lengths, logs_sync_lengths}
+use Rattle.table_state.proofs.Syncing.{sync_within, sync_lengths}
 use Rattle.txg_sync.specs.Placing.{ArePlaced}
 use Rattle.table_state.specs.Closing.{PlainClosed, IsInRange, kept_of}
 use Rattle.txg_sync.specs.Planning.{IsMadeOf, IsPlan}

@@ -6,7 +6,7 @@ use Rattle.log_flush.specs.Flushing.{IsSecondStep}
 use Rattle.log_pair.specs.Paired.{Paired, of_table, with_change}
 use Rattle.log_pair.proofs.PairLaws.{logged-pair}
 use Rattle.pool_model.specs.Logs.{Logs, appended, emptied_log}
-use Rattle.pool_model.specs.Replaying.{LoggedTable, sync_logged}
+use Rattle.pool_model.specs.Replaying.{sync_logged}
 use Rattle.pool_model.specs.Table.{TableState, flush_limit, log_change, logged, flushed}
 use Rattle.table_state.specs.Kept.{kept_in}
 use Rattle.log_flush.specs.Flushing.{table_with}

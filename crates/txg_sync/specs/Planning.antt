@@ -49,8 +49,8 @@ pub record IsMadeOf (held : Held) (closed : PlainClosed) (slots : List SlotRecor
   pub group_is : next.group ≡ held.group + 1
   pub sectors_are : next.sectors ≡ held.sectors
 
--- a plan: the pool after the group, whose slots and stored homes fit their records and which counts no more keys than memory has, its chains, and
--- the seal, with null pointers in place of the roots, which are known once the pages are written
+-- a plan: the pool after the group, whose slots and stored homes fit their records and whose count of keys is small, its chains, and the seal,
+-- with null pointers in place of the roots, which are known once the pages are written
 pub record IsPlan (held : Held) (closed : PlainClosed) (next : Held) (parts : List ChainPart) (seal : Seal) : Type 0 where
   pub is_next : IsNext held closed (places_in parts) next
   pub keys_few : next.keys < 2 ^ 62

@@ -86,8 +86,10 @@ pub fn place_chains(
     lists: Vec<RecordList>,
 ) -> Result<Option<Vec<ChainPages>>, AllocError>
     requires ring { (sector : ℕ) → sector < 32 → slice_index_or used sector true ≡ true }
-    ensures placed { IfOk result (λ found. IfSome found (λ parts. ArePlaced used (map stored_of contents.now) (map (λ records. records.items) lists.items) parts.items)) }
-    ensures room { IfOk result (λ found. IfNone found (LacksRoom used (map stored_of contents.now) (map (λ records. records.items) lists.items))) }
+    ensures placed { IfOk result (λ found. IfSome found (λ parts.
+        ArePlaced used (map stored_of contents.now) (map (λ records. records.items) lists.items) parts.items)) }
+    ensures room { IfOk result (λ found. IfNone found
+        (LacksRoom used (map stored_of contents.now) (map (λ records. records.items) lists.items))) }
 {
     mark_blocks(&mut used, contents);
     let Some(pages) = pages_within(lists.as_slice(), used.free()) else {

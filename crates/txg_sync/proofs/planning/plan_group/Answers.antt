@@ -71,7 +71,8 @@ returns-clause-planned g c =
     c.pool.view_is
     (subst (λ cs. ArePlaced c.pool.inside.book.used cs (records_in c.as_slice-slots.result.now c.sync_table.new.table)
     c.in-Some.parts.items) (ap (map stored_of) c.as_slice-contents.ensures) (rw c.in-Some.is at c.in_ok-parts.ensures.placed))) in
-    let pages : c.in_ok-pages.pages.items ≡ places_in c.in-Some.parts.items = c.in_ok-pages.ensures ∙ ap places_in c.as_slice-3.ensures.value in
+    let pages : c.in_ok-pages.pages.items ≡ places_in c.in-Some.parts.items =
+    c.in_ok-pages.ensures ∙ ap places_in c.as_slice-3.ensures.value in
     let keys : c.seal_of-seal.result.homes ≡ length (counted_homes c.sync_table.new.table.table) =
     ap (λ (s : Seal). s.homes) (c.seal_of-seal.ensures.fields []) in
     let few = few_homes c.args.pool.now c.requires.sound contents c.set_slots.new.slots c.sync_table.new.table c.in-Some.parts.items placed
@@ -80,9 +81,11 @@ returns-clause-planned g c =
     c.of_used.result.used = λ modes quota group.
     c.of_used.ensures.used
     ∙ c.in_ok-used.ensures c.sync_table.new.table.table (c.as_slice-6.ensures.value ∙ c.in_ok-homes.ensures)
-    (lengths_after c.args.pool.now (closed_of c.args.closed.now) c.requires.sound c.requires.range c.sync_table.new.table kept) modes quota group
+    (lengths_after c.args.pool.now (closed_of c.args.closed.now) c.requires.sound c.requires.range c.sync_table.new.table kept)
+    modes quota group
     ∙ ap (λ (h : Held). used_sectors h.sectors c.as_slice-5.result.now
-    (pool_after [] [] c.as_slice-slots.result.now c.sync_table.new.table.table modes quota group) c.sync_table.new.table.table) c.pool.view_is
+    (pool_after [] [] c.as_slice-slots.result.now c.sync_table.new.table.table modes quota group) c.sync_table.new.table.table)
+    c.pool.view_is
     ∙ ap (λ (ps : List ℕ). used_sectors c.args.pool.now.sectors ps
     (pool_after [] [] c.as_slice-slots.result.now c.sync_table.new.table.table modes quota group) c.sync_table.new.table.table)
     c.as_slice-5.ensures
@@ -108,7 +111,8 @@ returns-clause-planned g c =
       slots_are = refl;
       kept_is = refl;
       keys_are = keys;
-      keys_few = omega (arith, keys, few, length-filter-le (λ (e : Entry). nat_lt 0 e.home.count) (entries_found c.sync_table.new.table.table));
+      keys_few = omega
+          (arith, keys, few, length-filter-le (λ (e : Entry). nat_lt 0 e.home.count) (entries_found c.sync_table.new.table.table));
       pages_are = refl;
       used_are = used;
       pending_are = pending;

@@ -34,8 +34,11 @@ pub seal_group-sealed-requires-clause-within : goal.seal_group-sealed-requires-c
 seal_group-sealed-requires-clause-within g c κs outlives =
     subst (λ (cs : List StoredBlock). (k : ℕ) (d : StoredBlock) → k < length cs → (slice_index_or cs k d).place <
     (g.D.Disk.state c.args.disk.now).sectors) (sym c.as_slice.ensures)
-    (λ k d inside. omega
-    (arith, c.requires.on_disk, stored_at (λ s. s.place < c.args.before.value.sectors) c.args.closed.now.contents.items c.requires.range.on_disk k d inside))
+    (λ k d inside. omega (
+      arith,
+      c.requires.on_disk,
+      stored_at (λ s. s.place < c.args.before.value.sectors) c.args.closed.now.contents.items c.requires.range.on_disk k d inside,
+    ))
 
 pub seal_group-sealed-requires-clause-lengths : goal.seal_group-sealed-requires-clause-lengths
 seal_group-sealed-requires-clause-lengths g c κs outlives =
@@ -59,8 +62,8 @@ returns-in-Err-clause-any_moment g c image s told pending over =
     c.requires.planned.slots_fit c.requires.planned.zap_fits c.logs_fit.ensures.active c.logs_fit.ensures.flushing in
     let is_image = subst (λ (o : Option Image). TellsImage sectors o) told tells in
     let can = subst (λ (o : Option Image). CanSyncOver o c.args.before.value (closed_of c.args.closed.now)) told c.requires.over in
-    let run = may_be_as_planned c.args.planned.now.seal c.args.closed.now.contents.items c.as_slice.result.now c.args.planned.now.parts.items
-    c.as_slice-parts.result.now c.as_slice.ensures c.as_slice-parts.ensures.value image
+    let run = may_be_as_planned c.args.planned.now.seal c.args.closed.now.contents.items c.as_slice.result.now
+    c.args.planned.now.parts.items c.as_slice-parts.result.now c.as_slice.ensures c.as_slice-parts.ensures.value image
     (c.seal_group-sealed.ensures.any_moment image told pending) in (
       c.args.pool.now.pages,
       pages_after c.args.before.value (closed_of c.args.closed.now) c.args.pool.now c.args.planned.now.parts.items c.args.planned.now.seal
@@ -110,8 +113,8 @@ returns-clause-synced g c =
     let spelt = spelt_by c.args.pool.now c.args.pool.now.slots c.table.inside.logs.logs refl
     (ap (λ (k : LoggedTable). k.logs) c.table.view_is ∙ ap (λ (h : Held). h.logs) c.pool.view_is)
     c.requires.planned.slots_fit c.requires.planned.zap_fits c.logs_fit.ensures.active c.logs_fit.ensures.flushing in
-    let seals = sealed_as_planned c.args.planned.now.seal c.args.closed.now.contents.items c.as_slice.result.now c.args.planned.now.parts.items
-    c.as_slice-parts.result.now c.as_slice.ensures c.as_slice-parts.ensures.value
+    let seals = sealed_as_planned c.args.planned.now.seal c.args.closed.now.contents.items c.as_slice.result.now
+    c.args.planned.now.parts.items c.as_slice-parts.result.now c.as_slice.ensures c.as_slice-parts.ensures.value
     (g.D.Disk.state c.args.disk.now).seen (g.D.Disk.state c.seal_group-sealed.new.disk).seen c.in_default.ensures.sealed in
     syncs_of c.args.before.value (closed_of c.args.closed.now) c.requires.sound c.args.pool.now c.args.planned.now.parts.items
     c.args.planned.now.seal
@@ -145,8 +148,8 @@ returns-clause-any_moment g c image s told pending over =
     c.requires.planned.slots_fit c.requires.planned.zap_fits c.logs_fit.ensures.active c.logs_fit.ensures.flushing in
     let is_image = subst (λ (o : Option Image). TellsImage sectors o) told tells in
     let can = subst (λ (o : Option Image). CanSyncOver o c.args.before.value (closed_of c.args.closed.now)) told c.requires.over in
-    let run = may_be_as_planned c.args.planned.now.seal c.args.closed.now.contents.items c.as_slice.result.now c.args.planned.now.parts.items
-    c.as_slice-parts.result.now c.as_slice.ensures c.as_slice-parts.ensures.value image
+    let run = may_be_as_planned c.args.planned.now.seal c.args.closed.now.contents.items c.as_slice.result.now
+    c.args.planned.now.parts.items c.as_slice-parts.result.now c.as_slice.ensures c.as_slice-parts.ensures.value image
     (c.seal_group-sealed.ensures.any_moment image told pending) in (
       c.args.pool.now.pages,
       pages_after c.args.before.value (closed_of c.args.closed.now) c.args.pool.now c.args.planned.now.parts.items c.args.planned.now.seal
