@@ -5,10 +5,10 @@
 //! contract sees both classes as one list of entries, sorted by key; which class an entry stands in is its
 //! count's affair alone (`specs/Classes.antt`). `put` moves a key where its count asks for it.
 //!
-//! Each class is a map of its own (`plain_table::HomeMap`), as each will be an object on pages of its own; over lists in memory a
-//! look-up or a change takes a time of the logarithm of their sizes in both. The number of entries, of those
-//! of each class, and of the pointers that the homes count together are kept, and told at once. Calls take
-//! the disk and a reader of its pages, though no sector is read yet. `find` and `take_out` then never fail,
+//! Each class is a map of its own (`plain_table::HomeMap`), as each will be an object on pages of its own; over
+//! maps in memory a look-up or a change takes a time of the logarithm of their sizes in both. The number of
+//! entries, of those of each class, and of the pointers that the homes count together are kept, and told at
+//! once. Calls take the disk and a reader of its pages, though no sector is read yet. `find` and `take_out` then never fail,
 //! and `put` and `entries` fail for want of memory alone. `home_of` and `listed` are `find` and `entries` for
 //! who has no disk at hand.
 //!

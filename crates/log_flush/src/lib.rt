@@ -10,7 +10,8 @@
 //! The last key that left is the checkpoint, and the log keeps its records until the list is empty. Then it
 //! is emptied here, and has no checkpoint.
 //!
-//! The sync of a later pool will stand on this crate; the program doesn't use it yet.
+//! The sync of a pool's table in memory, `txg_sync::sync_table`, stands on this crate. It has no use for the places yet:
+//! it finds anew which sectors are used.
 #![tactic(auto)]
 
 mod flushing;

@@ -12,9 +12,10 @@
 //! is emptied or swapped loses it. At every moment the lists are what the logs are replayed to; this is
 //! the type's invariant, and `replays` tells it.
 //!
-//! Each list is an ordered map (`plain_table::ChangeMap`), so that a key is looked up, set and dropped in logarithmic time.
-//! `walk` goes over a list in key order in time that is its length; `change` finds the change at an
-//! index, and steps over all that stand before it. `kept` shows a log as it was appended.
+//! Each list is an ordered map (`plain_table::ChangeMap`), so that a key is looked up, set and dropped in
+//! logarithmic time. `walk` goes over a list in key order in time that is its length; `change` finds the
+//! change at an index, and steps over all that stand before it. `homes_found` lays both lists over sorted
+//! homes, in time that is the length of all. `kept` shows a log as it was appended.
 //!
 //! A contract sees the pair as a `Paired` (`specs/Paired.antt`). Laws of `proofs/PairLaws.antt` lead from
 //! the calls to the steps of the table's sync.

@@ -1,4 +1,4 @@
-//! The parts of a later table, each by itself: tests of what no pool is made of yet.
+//! The parts of a pool, each by itself.
 //!
 //! Nothing here is used by another crate. `slots` has the slots of all lanes, `classes` the stored table in its two
 //! classes, `log_lists` one log, `two_logs` the pair of logs, and `flushes` the records that leave a log for the stored

@@ -5,9 +5,9 @@
 //! and puts what it holds now at its place.
 //!
 //! A `SlotMap` is the ordered map alone, as a pool in memory keeps its slots: a look-up or a change takes a time of
-//! the logarithm of their number, and a copy or a list takes their number. A `SlotTable` has one, and no slot that
-//! there can't be; no sector is read yet. Its calls take the disk and a reader of its pages all the same, since the slots will be an object
-//! on pages. `get` then never fails, and `set` and `slots` fail for want of memory alone.
+//! the logarithm of their number, and a list takes their number. A `SlotTable` has one, and no slot that there can't
+//! be; no sector is read yet. Its calls take the disk and a reader of its pages all the same, since the slots will be
+//! an object on pages. `get` then never fails, and `set` and `slots` fail for want of memory alone.
 //!
 //! Laws of `proofs/`: what a slot holds once one was set (`SlotLaws.{pointer_at-set}`), that the slots go on
 //! rising (`SlotLaws.slots_set`), and how many there are then (`SlotLaws.length-set_slot`).

@@ -19,6 +19,11 @@
 //! laws `SlotLaws.{written, was_written, length-slot, slot-AreBytes, alike}`; which bytes are one by the
 //! table of `specs/SlotRecords.antt`, `SlotLaws.{right, wrong}`.
 //!
+//! A `Pool` is a pool in memory, as the newest sealed group left it: its slots, its table (`DedupTable`, of the
+//! classes, the two logs and an age), how many keys are counted, the sectors of its pages, the book of its
+//! sectors, and the settings. A contract sees it as a `Held` (`specs/Pools.antt`). It tells what a group needs
+//! and what is free by kept numbers.
+//!
 //! Lemmas in `proofs/` lead from a pool in memory that is held over an image to what a group needs of it:
 //! `SoundOf`, `SlotsOf`, `UnusedOf`, `MarksOf`, `Refilled`, `BlocksOf`, `RoomLaws`.
 #![tactic(auto)]
