@@ -11,8 +11,8 @@ use Rattle.pool_model.specs.Table.{TableState}
 use Rattle.log_pair.specs.Paired.{Paired}
 
 -- a table of these homes and these logs, whose active log is so old
-abbrev pub table_in : (zap : List Entry) → Paired → (age : ℕ) → TableState
-table_in zap logs age =
+abbrev pub table_of_parts : (zap : List Entry) → Paired → (age : ℕ) → TableState
+table_of_parts zap logs age =
     record { zap = zap; flush = logs.flush; active = logs.active; age = age; checkpoint = logs.checkpoint }
 
 -- the oldest first, and then by key

@@ -4,7 +4,7 @@ ghost use Rattle.ddt_entry.specs.declared.entry.Change.TheVariants.{Gone as Gone
 ghost use Rattle.pool_model.specs.Pool.{Pool};
 ghost use Rattle.pool_model.specs.Table.{entries_found, Matches};
 ghost use Rattle.pool_model.specs.Prune.{prune_changes};
-ghost use Rattle.prune_walk.specs.Candidates.{candidates, table_in};
+ghost use Rattle.prune_walk.specs.Candidates.{candidates, table_of_parts};
 
 use crate::ages::{taken_by, unique_homes};
 use ddt_class::Classes;
@@ -27,8 +27,8 @@ pub fn candidates<D: Disk, P: PageReader<D>>(
 ) -> Result<EntryList, PageFault>
     requires fits { P.fits reader.old disk.now }
     ensures taken { IfOk result (λ taken.
-        taken.items ≡ candidates (entries_found (table_in classes.now logs.now 0)) rule moment) }
-    ensures pruned { (pool : Pool) (age : ℕ) → Matches pool (table_in classes.now logs.now age)
+        taken.items ≡ candidates (entries_found (table_of_parts classes.now logs.now 0)) rule moment) }
+    ensures pruned { (pool : Pool) (age : ℕ) → Matches pool (table_of_parts classes.now logs.now age)
         → IfOk result (λ taken. map (λ entry. GoneOf entry.key) taken.items ≡ prune_changes pool rule moment) }
     ensures fault { IfErr result (λ fault. fault ≡ Memory) }
     ensures fits { P.fits reader.new disk.now }
