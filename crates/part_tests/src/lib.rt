@@ -1,9 +1,8 @@
 //! The parts of a pool, each by itself.
 //!
 //! Nothing here is used by another crate. `slots` has the slots of all lanes, `classes` the stored table in its two
-//! classes, `log_lists` one log, `two_logs` the pair of logs, `flushes` the records that leave a log for the stored
-//! table, and `prunes` the homes that a prune takes. `places` has the book that places are given out of, and the slots
-//! that a lane names. Each call of theirs that
+//! classes, `log_lists` one log, `two_logs` the pair of logs, and `flushes` the records that leave a log for the stored
+//! table. `places` has the book that places are given out of, and the slots that a lane names. Each call of theirs that
 //! takes memory could give up each time, and its contract would hold: so each is made here with ample memory, and a
 //! refusal fails the test. What is wanted is written out by hand from what was put in. `parts` has the disk, the keys
 //! and the homes that several of them use, and what is compared goes through `comparing`.
@@ -21,8 +20,6 @@ mod log_lists;
 mod parts;
 #[cfg(test)]
 mod places;
-#[cfg(test)]
-mod prunes;
 #[cfg(test)]
 mod slots;
 #[cfg(test)]
