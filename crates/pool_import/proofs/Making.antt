@@ -45,12 +45,3 @@ all_judged seal flat used found is judged =
     → IsWhole image seal flat × (sectors ≡ used_sectors seal.sectors flat.named (pool_in image seal flat) (table_in seal flat)))) is
     judged []).1
     ∙ length-used_sectors seal.sectors flat.named (pool_in [] seal flat) (table_in seal flat)
-
--- a list whose items are those of another, by a function
-pub mapped : {X : Type 0} (f : ℕ → X) (xs : List ℕ) (ys : List X) (default : X) → length ys ≡ length xs
-    → ((i : ℕ) → i < length xs → get_or ys i default ≡ f (get_or xs i 0)) → ys ≡ map f xs
-mapped f xs ys default long each =
-    ext_get_or default ys (map f xs) (long ∙ sym (length-map xs f))
-    (λ i within.
-    let there : i < length xs = omega (arith, long, within) in
-    each i there ∙ sym (get_or-map f xs i 0 default there))

@@ -41,3 +41,4 @@ pub mod Named
 pub mod Replays
 pub mod Keys
 pub mod Loops
+pub mod Counted

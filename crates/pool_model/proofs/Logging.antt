@@ -10,7 +10,7 @@ use Rattle.pool_model.specs.Homes.{found_with}
 use Rattle.pool_model.proofs.Finding.{change_at-set, change_at-drop, folded, laid-home_in}
 
 -- one change
-found-log_change : (key : Key) (table : TableState) (change : Change)
+pub found-log_change : (key : Key) (table : TableState) (change : Change)
     → found (log_change table change) key ≡ cond (key_eq (key_in change) key) (home_in change) (found table key)
 found-log_change key table change =
     ap (λ o. found_over (found_over (entry_at key table.zap) o) (change_at key (set_change change table.active)))

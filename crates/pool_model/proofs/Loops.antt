@@ -2,7 +2,7 @@
 use Rattle.std.proofs.Common.{◌≡◌, ℕ, ◌+◌, ◌<◌, Bool, false, cond, not, List, [], ◌∷◌, ◌++◌, length, take, map, filter, get_or, Option, Some, None, refl, sym, ap, ◌∙◌, arith, unwrap_or, position}
 use Rattle.std.specs.List.{AllByRecursion, filter_map, cons_option, position_or_len}
 use Rattle.std.specs.Option.{option_to_list}
-use Rattle.std.proofs.lemmas.List.{take_more}
+use Rattle.std.proofs.lemmas.List.{take_more, ext_get_or, get_or-map, length-map}
 use Rattle.std.proofs.lemmas.List.Elements.{filter_map-append}
 use Rattle.std.proofs.lemmas.List.Sums.{prefix_len-le-length}
 use Rattle.std.proofs.lemmas.Grind.{common_steps}
@@ -16,6 +16,15 @@ all_push P (y ∷ ys) x all here = (all.0, all_push P ys x all.1 here)
 pub all_mapped : {X Y : Type 0} (P : Y → Type 0) (f : X → Y) (xs : List X) → AllByRecursion (λ x. P (f x)) xs → AllByRecursion P (map f xs)
 all_mapped P f [] all = tt
 all_mapped P f (x ∷ xs) all = (all.0, all_mapped P f xs all.1)
+
+-- a list whose items are those of another, by a function
+pub mapped : {X Y : Type 0} (f : X → Y) (xs : List X) (ys : List Y) (item : X) (default : Y) → length ys ≡ length xs
+    → ((i : ℕ) → i < length xs → get_or ys i default ≡ f (get_or xs i item)) → ys ≡ map f xs
+mapped f xs ys item default long each =
+    ext_get_or default ys (map f xs) (long ∙ sym (length-map xs f))
+    (λ i within.
+    let there : i < length xs = omega (arith, long, within) in
+    each i there ∙ sym (get_or-map f xs i item default there))
 
 -- where no item passes, nothing is left
 pub filter-none : {X : Type 0} (test : X → Bool) (xs : List X) → AllByRecursion (λ x. test x ≡ false) xs → filter test xs ≡ []

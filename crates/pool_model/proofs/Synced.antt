@@ -29,7 +29,7 @@ use Rattle.pool_model.proofs.Syncing.{logged_keeps}
 abbrev flushed_home : Change → Option Home
 flushed_home change = counted (home_in change)
 
-entry_at-flush_entry : (key : Key) (entries : List Entry) (change : Change)
+pub entry_at-flush_entry : (key : Key) (entries : List Entry) (change : Change)
     → entry_at key (flush_entry entries change) ≡ cond (key_eq (key_in change) key) (flushed_home change) (entry_at key entries)
 entry_at-flush_entry key entries (changes.Entry entry) = by_count (nat_lt 0 entry.home.count)
   where
@@ -91,7 +91,7 @@ module _ (limit : ℕ) (table : TableState) (key : Key) (rising : AreChangesRisi
       (pairs_front ChangeBelow left rest split)
 
   -- changes that are flushed keep their homes, or were those of no pointer
-  found-flushed : StaysOrGoes (found table key) (found (flushed limit table) key)
+  pub found-flushed : StaysOrGoes (found table key) (found (flushed limit table) key)
   found-flushed =
       subst (λ (log : List Change). StaysOrGoes (found_over (found_over zap (change_at key log)) active)
       (found (flushed limit table) key)) whole
@@ -109,7 +109,7 @@ none_of_length (change ∷ log) none = let zero_long : length (change ∷ log) �
     absurd (omega arith)
 
 -- the active log takes the place of a flushing log that has nothing
-found-swapped : (table : TableState) (key : Key) → found (swapped table) key ≡ found table key
+pub found-swapped : (table : TableState) (key : Key) → found (swapped table) key ≡ found table key
 found-swapped table key = by_due (is_due (aged table)) refl
   where
     by_due : (b : Bool) → is_due (aged table) ≡ b

@@ -67,7 +67,7 @@ abbrev counted_at : Pool → Key → KeyCount
 counted_at pool key = record { key = key; count = count_at pool key }
 
 -- the counts of a pool's keys
-key_counts-pool : (pool : Pool) → key_counts (tracked_keys (map reference_of pool.pointers)) ≡ map (counted_at pool) (keys_in pool)
+pub key_counts-pool : (pool : Pool) → key_counts (tracked_keys (map reference_of pool.pointers)) ≡ map (counted_at pool) (keys_in pool)
 key_counts-pool pool =
     ap (map (λ key. record { key = key; count = count_of (tracked_keys (map reference_of pool.pointers)) key }))
     (keys_from-pointers [] pool.pointers)
@@ -105,7 +105,7 @@ referenced_are pointers =
     (filter (λ (pointer : Pointer). is_tracked (standing_of pointer.mark)) pointers)
     ∙ ap (λ test. sum_by (λ (pointer : Pointer). pointer.key.len) (filter test pointers)) (λ i pointer. tracked_alike pointer.mark i)
 
-counts_are : (pool : Pool) → stats_in (map reference_of pool.pointers) (map (counted_at pool) (keys_in pool)) ≡ stats_of pool
+pub counts_are : (pool : Pool) → stats_in (map reference_of pool.pointers) (map (counted_at pool) (keys_in pool)) ≡ stats_of pool
 counts_are pool =
     let keys : List Key = keys_in pool in
     let many = length-counted pool keys in

@@ -11,6 +11,7 @@
 
 mod counts;
 mod reference;
+mod running;
 mod totals;
 
 pub use reference::{Reference, Standing};

@@ -11,7 +11,7 @@ use pool_model::{BUCKETS, Bucket, Stats};
 use std::alloc::{AllocError, Global};
 
 /// A bucket without keys.
-const NO_KEYS: Bucket = Bucket {
+pub const NO_KEYS: Bucket = Bucket {
     low: 0,
     keys: 0,
     allocated: 0,
@@ -196,7 +196,7 @@ fn members_of(alloc: Global, counts: &[KeyCount], b: u32) -> Result<Vec<KeyCount
 }
 
 /// Whether a count lies from 2^b to 2^(b + 1) - 1.
-fn is_in_bucket(b: u32, count: u64) -> bool
+pub fn is_in_bucket(b: u32, count: u64) -> bool
     requires { b < 21 }
     ensures { result ≡ is_in_bucket b count }
 {
