@@ -1,17 +1,19 @@
 -- Laws of slots in rising order: one is set, or emptied.
-use Rattle.std.proofs.Common.{◌≡◌, ℕ, ◌+◌, ◌≤◌, ◌<◌, Bool, true, false, cond, not, ◌&&◌, ◌||◌, ◌==◌, List, [], ◌∷◌, length, filter, find, Option, Some, None, refl, sym, ap, ◌∙◌, arith}
+use Rattle.std.proofs.Common.{◌≡◌, ℕ, ◌+◌, ◌^◌, ◌%◌, ◌≤◌, ◌<◌, Bool, true, false, cond, not, ◌&&◌, ◌||◌, ◌==◌, List, [], ◌∷◌, length, filter, find, Option, Some, None, refl, sym, ap, ◌∙◌, arith}
 use Rattle.std.specs.Prelude.{nat_lt, IfSome, if◌then◌else◌}
 use Rattle.std.specs.List.{AllByRecursion}
 use Rattle.std.specs.Option.{option_map}
 use Rattle.std.proofs.lemmas.Bool.{false≢true}
 use Rattle.std.proofs.lemmas.Bool.Decides.{nat_tests}
+use Rattle.std.proofs.lemmas.List.Sums.{sum_by-cons, count_by-le-length}
 use Rattle.ddt_entry.specs.declared.entry.Pointer.{Pointer as SlotPointer}
 use Rattle.pool_model.specs.Pool.{Pairwise}
 use Rattle.pool_model.specs.declared.closed.SlotChange.{SlotChange}
-use Rattle.pool_model.proofs.Lists.{all_from, all_filter, all_tested, pairs_filter, filter_whole, length-filter-le}
+use Rattle.pool_model.proofs.Lists.{all_from, all_filter, all_tested, pairs_filter, filter_whole, length-filter-le, none_found}
 use Rattle.pool_model.proofs.Pointers.{order_through}
 use Rattle.slot_table.specs.declared.slot.SlotRecord.{SlotRecord}
-use Rattle.slot_table.specs.Slots.{stands_before, is_slot_at, pointer_at, insert_slot, slot_with, set_slot, held_as, all_held, IsPlaced, AreRisingSlots, AreSlots}
+use Rattle.slot_table.specs.Maps.{moved}
+use Rattle.slot_table.specs.Slots.{is_outside, plain_in, plain_of, stands_before, is_slot_at, pointer_at, insert_slot, slot_with, set_slot, held_as, all_held, IsPlaced, AreRisingSlots, AreSlots}
 
 abbrev pub Before : SlotRecord → SlotRecord → Type 0
 Before a b = stands_before a b ≡ true
@@ -102,6 +104,94 @@ each_set P slots change makes all = by_pointer change.pointer makes
     by_pointer (Some pointer) one =
         each_inserted P (record { lane = change.lane; slot = change.slot; pointer = pointer })
         (filter (λ held. not (is_slot_at change.lane change.slot held)) slots) one left
+
+-- ---- How many are outside the table
+
+-- one of a slot whose pointer is
+abbrev outside : SlotRecord → ℕ
+outside held = cond (is_outside held.pointer) 1 0
+
+plain-insert : (new : SlotRecord) (slots : List SlotRecord)
+    → plain_in (insert_slot new slots) ≡ plain_in slots + plain_of (Some new.pointer)
+plain-insert new [] = omega (arith, sum_by-cons outside new [])
+plain-insert new (held ∷ slots) = by_test (stands_before new held) (plain-insert new slots)
+  where
+    by_test : (b : Bool) → plain_in (insert_slot new slots) ≡ plain_in slots + plain_of (Some new.pointer)
+        → plain_in (if b then new ∷ held ∷ slots else held ∷ insert_slot new slots)
+        ≡ plain_in (held ∷ slots) + plain_of (Some new.pointer)
+    by_test true more = omega (arith, sum_by-cons outside new (held ∷ slots))
+    by_test false more = omega (arith, more, sum_by-cons outside held slots, sum_by-cons outside held (insert_slot new slots))
+
+plain-emptied : (lane slot : ℕ) (slots : List SlotRecord) → Pairwise Before slots
+    → plain_in (filter (λ held. not (is_slot_at lane slot held)) slots) + plain_of (pointer_at lane slot slots) ≡ plain_in slots
+plain-emptied lane slot [] rising = refl
+plain-emptied lane slot (held ∷ slots) rising = by_test (is_slot_at lane slot held) refl (plain-emptied lane slot slots rising.1)
+  where
+    others : List SlotRecord
+    others = filter (λ held. not (is_slot_at lane slot held)) slots
+
+    apart_two : (a b c d e f : ℕ) → ((a == e) && (b == f)) ≡ true → (nat_lt a c || ((a == c) && nat_lt b d)) ≡ true
+        → ((c == e) && (d == f)) ≡ false
+    apart_two a b c d e f first before = grind (arith, nat_tests, first, before)
+
+    by_test : (b : Bool) → is_slot_at lane slot held ≡ b
+        → plain_in (filter (λ held. not (is_slot_at lane slot held)) slots) + plain_of (pointer_at lane slot slots) ≡ plain_in slots
+        → plain_in (cond (not b) (held ∷ filter (λ held. not (is_slot_at lane slot held)) slots)
+        (filter (λ held. not (is_slot_at lane slot held)) slots))
+        + plain_of (option_map (λ (s : SlotRecord). s.pointer) (cond b (Some held) (find (is_slot_at lane slot) slots)))
+        ≡ plain_in (held ∷ slots)
+    by_test true here more =
+        let none : plain_of (pointer_at lane slot slots) ≡ 0 = ap (λ o. plain_of (option_map (λ (s : SlotRecord). s.pointer) o))
+        (none_found (is_slot_at lane slot) slots
+        (all_from (Before held) (λ s. is_slot_at lane slot s ≡ false)
+        (λ s before. apart_two held.lane held.slot s.lane s.slot lane slot here before) slots rising.0)) in
+        omega (arith, more, none, sum_by-cons outside held slots)
+    by_test false apart more =
+        omega (
+          arith,
+          more,
+          sum_by-cons outside held slots,
+          sum_by-cons outside held (filter (λ held. not (is_slot_at lane slot held)) slots),
+        )
+
+-- once a slot was set or emptied
+pub plain_set : (slots : List SlotRecord) (change : SlotChange) → AreRisingSlots slots
+    → plain_in (set_slot slots change) + plain_of (pointer_at change.lane change.slot slots) ≡ plain_in slots + plain_of change.pointer
+plain_set slots change rising = by_pointer change.pointer
+  where
+    left : plain_in (filter (λ held. not (is_slot_at change.lane change.slot held)) slots)
+        + plain_of (pointer_at change.lane change.slot slots) ≡ plain_in slots
+    left = plain-emptied change.lane change.slot slots rising
+
+    by_pointer : (pointer : Option SlotPointer)
+        → plain_in (slot_with change pointer (filter (λ held. not (is_slot_at change.lane change.slot held)) slots))
+        + plain_of (pointer_at change.lane change.slot slots)
+        ≡ plain_in slots + plain_of pointer
+    by_pointer None = omega (arith, left)
+    by_pointer (Some pointer) =
+        omega (
+          arith,
+          left,
+          plain-insert (record { lane = change.lane; slot = change.slot; pointer = pointer })
+              (filter (λ held. not (is_slot_at change.lane change.slot held)) slots),
+        )
+
+-- a number that is kept modulo 2^64 goes on being kept
+pub moved_by : (number gone come next : ℕ) → next + gone ≡ number + come → gone < 2 → come < 2
+    → moved (number % 2 ^ 64) gone come ≡ next % 2 ^ 64
+moved_by number gone come next same few small = omega (arith, same, few, small)
+
+pub one_at_most : (pointer : Option SlotPointer) → plain_of pointer < 2
+one_at_most None = omega arith
+one_at_most (Some pointer) = by_test (is_outside pointer)
+  where
+    by_test : (b : Bool) → (if b then 1 else 0) < 2
+    by_test true = omega arith
+    by_test false = omega arith
+
+-- there are no more than there are slots
+pub plain_few : (slots : List SlotRecord) → plain_in slots ≤ length slots
+plain_few slots = count_by-le-length (λ (held : SlotRecord). is_outside held.pointer) slots
 
 -- slots go on rising once one was set or emptied
 pub rising_set : (slots : List SlotRecord) (change : SlotChange) → AreRisingSlots slots → AreRisingSlots (set_slot slots change)

@@ -1,5 +1,5 @@
 -- What a map's calls make of the list of its slots.
-use Rattle.std.proofs.Common.{◌≡◌, ℕ, Bool, true, false, cond, not, ◌&&◌, ◌||◌, ◌==◌, List, [], ◌∷◌, length, filter, find, Some, None, refl, sym, ap, subst, ◌∙◌, arith}
+use Rattle.std.proofs.Common.{◌≡◌, ℕ, ◌+◌, ◌^◌, ◌%◌, Option, Bool, true, false, cond, not, ◌&&◌, ◌||◌, ◌==◌, List, [], ◌∷◌, length, filter, find, Some, None, refl, sym, ap, subst, ◌∙◌, arith}
 use Rattle.std.specs.Prelude.{nat_lt, if◌then◌else◌}
 use Rattle.std.specs.List.{AllByRecursion}
 use Rattle.std.specs.Map.{lookup, remove_entry}
@@ -13,12 +13,14 @@ use Rattle.std.proofs.lemmas.Map.Lookups.{exact_pairs, exact_unsigned}
 use Rattle.std.proofs.lemmas.Bool.Decides.{nat_tests}
 use Rattle.ddt_entry.specs.declared.entry.Pointer.{Pointer as SlotPointer}
 use Rattle.pool_model.specs.Pool.{Pairwise}
+use Rattle.pool_model.specs.declared.closed.SlotChange.{SlotChange}
 use Rattle.pool_model.proofs.Lists.{all_from}
 use Rattle.slot_table.specs.declared.slot.SlotPlace.{SlotPlace}
 use Rattle.slot_table.specs.declared.slot.SlotRecord.{SlotRecord}
 use Rattle.slot_table.specs.contracts.slot.SlotPlaceOrd.TheImpl as ord
-use Rattle.slot_table.specs.Slots.{stands_before, is_slot_at, pointer_at, insert_slot, set_slot, AreRisingSlots, slot_of, slots_of}
-use Rattle.slot_table.proofs.SlotLaws.{Before, is_other, stands_through, others_above, inserted_first, rising_set}
+use Rattle.slot_table.specs.Maps.{moved, IsSlotMap}
+use Rattle.slot_table.specs.Slots.{plain_in, plain_of, stands_before, is_slot_at, pointer_at, insert_slot, set_slot, AreRisingSlots, slot_of, slots_of}
+use Rattle.slot_table.proofs.SlotLaws.{Before, is_other, stands_through, others_above, inserted_first, plain_set, moved_by, one_at_most, rising_set}
 
 -- the order of places
 abbrev pub place_cmp : SlotPlace → SlotPlace → Ordering
@@ -173,6 +175,40 @@ pub rising_removed_pair : (place : SlotPlace) (pairs : List (SlotPlace × SlotPo
 rising_removed_pair place pairs rising =
     subst AreRisingSlots (sym (slots_of-remove place pairs rising))
     (rising_set (slots_of pairs) (record { lane = place.lane; slot = place.slot; pointer = None }) rising)
+
+-- ---- How many are outside the table goes on being kept
+
+kept_set : (slots next : List SlotRecord) (change : SlotChange) (plain : ℕ) (gone : Option SlotPointer) → IsSlotMap slots plain
+    → gone ≡ pointer_at change.lane change.slot slots → next ≡ set_slot slots change
+    → moved plain (plain_of gone) (plain_of change.pointer) ≡ plain_in next % 2 ^ 64
+kept_set slots next change plain gone is held set =
+    ap (λ n. moved n (plain_of gone) (plain_of change.pointer)) is.counted
+    ∙ moved_by (plain_in slots) (plain_of gone) (plain_of change.pointer) (plain_in next)
+    (ap (λ (s : List SlotRecord). plain_in s + plain_of gone) set
+    ∙ ap (λ o. plain_in (set_slot slots change) + plain_of o) held ∙ plain_set slots change is.rising)
+    (one_at_most gone) (one_at_most change.pointer)
+
+pub inserted_map : (place : SlotPlace) (pointer : SlotPointer) (pairs : List (SlotPlace × SlotPointer)) (plain : ℕ)
+    (gone : Option SlotPointer) → IsSlotMap (slots_of pairs) plain → gone ≡ lookup (is_at (place_cmp place)) pairs
+    → IsSlotMap (slots_of (insert_entry place_cmp pairs place pointer)) (moved plain (plain_of gone) (plain_of (Some pointer)))
+inserted_map place pointer pairs plain gone is looked = record {
+  rising = rising_inserted_pair place pointer pairs is.rising;
+  counted =
+      kept_set (slots_of pairs) (slots_of (insert_entry place_cmp pairs place pointer))
+      (record { lane = place.lane; slot = place.slot; pointer = Some pointer }) plain gone is (looked ∙ lookup-slots_of place pairs)
+      (slots_of-insert place pointer pairs is.rising);
+}
+
+pub removed_map : (place : SlotPlace) (pairs : List (SlotPlace × SlotPointer)) (plain : ℕ) (gone : Option SlotPointer)
+    → IsSlotMap (slots_of pairs) plain → gone ≡ lookup (is_at (place_cmp place)) pairs
+    → IsSlotMap (slots_of (remove_entry (is_at (place_cmp place)) pairs)) (moved plain (plain_of gone) 0)
+removed_map place pairs plain gone is looked = record {
+  rising = rising_removed_pair place pairs is.rising;
+  counted =
+      kept_set (slots_of pairs) (slots_of (remove_entry (is_at (place_cmp place)) pairs))
+      (record { lane = place.lane; slot = place.slot; pointer = None }) plain gone is (looked ∙ lookup-slots_of place pairs)
+      (slots_of-remove place pairs is.rising);
+}
 
 pub length-slots_of : (pairs : List (SlotPlace × SlotPointer)) → length (slots_of pairs) ≡ length pairs
 length-slots_of [] = refl

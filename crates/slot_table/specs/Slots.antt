@@ -1,12 +1,18 @@
 -- The slots of all lanes that hold a pointer, in rising order of lane and slot.
-use Rattle.std.specs.Prelude.{◌≡◌, ℕ, ◌<◌, Bool, true, not, ◌&&◌, ◌||◌, ◌==◌, nat_lt, List, [], ◌∷◌, filter, fold, map, Option, Some, None, if◌then◌else◌}
+use Rattle.std.specs.Prelude.{◌≡◌, ℕ, ◌<◌, Bool, true, false, count_by, not, ◌&&◌, ◌||◌, ◌==◌, nat_lt, List, [], ◌∷◌, filter, fold, map, Option, Some, None, if◌then◌else◌}
 use Rattle.std.specs.List.{AllByRecursion, find}
 use Rattle.std.specs.Option.{option_map}
 use Rattle.ddt_entry.specs.declared.entry.Pointer.{Pointer as SlotPointer}
+use Rattle.ddt_entry.specs.declared.entry.SlotKind.{SlotKind}
+use Rattle.ddt_entry.specs.declared.entry.SlotKind.TheVariants.{Plain, Flagged}
 use Rattle.pool_model.specs.Pool.{Pairwise}
 use Rattle.pool_model.specs.declared.closed.SlotChange.{SlotChange}
 use Rattle.slot_table.specs.declared.slot.SlotPlace.{SlotPlace}
 use Rattle.slot_table.specs.declared.slot.SlotRecord.{SlotRecord}
+
+abbrev pub is_plain_kind : SlotKind → Bool
+is_plain_kind Plain = true
+is_plain_kind Flagged = false
 
 -- one slot comes before another
 abbrev pub stands_before : SlotRecord → SlotRecord → Bool
@@ -18,6 +24,19 @@ is_slot_at lane slot held = (held.lane == lane) && (held.slot == slot)
 -- what a slot holds
 abbrev pub pointer_at : (lane slot : ℕ) → List SlotRecord → Option SlotPointer
 pointer_at lane slot slots = option_map (λ held. held.pointer) (find (is_slot_at lane slot) slots)
+
+-- whether a pointer is outside the table
+abbrev pub is_outside : SlotPointer → Bool
+is_outside pointer = is_plain_kind pointer.kind
+
+-- how many slots hold a pointer that is outside the table
+abbrev pub plain_in : List SlotRecord → ℕ
+plain_in slots = count_by (λ held. is_outside held.pointer) slots
+
+-- one, where a slot holds such a pointer
+abbrev pub plain_of : Option SlotPointer → ℕ
+plain_of None = 0
+plain_of (Some pointer) = if is_outside pointer then 1 else 0
 
 -- slots in rising order, with one more at its place
 abbrev pub insert_slot : SlotRecord → List SlotRecord → List SlotRecord

@@ -1,8 +1,9 @@
 ghost use Rattle.std.specs.Prelude.{◌≡◌, [], length, Option, None, IfOk, OnOk, OnErr};
-ghost use Rattle.slot_table.specs.Slots.{AreRisingSlots, pointer_at, set_slot, all_held};
+ghost use Rattle.slot_table.specs.Slots.{AreRisingSlots, pointer_at, set_slot, all_held, plain_in, plain_of};
+ghost use Rattle.slot_table.specs.Maps.{moved};
 
 use crate::slot::{SlotPlace, SlotRecord};
-use ddt_entry::Pointer;
+use ddt_entry::{Pointer, SlotKind};
 use pool_model::SlotChange;
 use std::alloc::{AllocError, Global};
 use std::collections::BTreeMap;
@@ -12,6 +13,8 @@ use std::marker::Model;
 #[derive(Drop)]
 pub struct SlotMap {
     pointers: BTreeMap<SlotPlace, Pointer>,
+    /// How many of the pointers are outside the table.
+    plain: u64,
 }
 
 impl Model for SlotMap {
@@ -20,11 +23,29 @@ impl Model for SlotMap {
 
     ghost Value = { List SlotRecord };
 
-    ghost use Rattle.slot_table.specs.Slots.{slots_of, AreRisingSlots};
+    ghost use Rattle.slot_table.specs.Slots.{slots_of};
+    ghost use Rattle.slot_table.specs.Maps.{IsSlotMap};
 
     ghost view = { λ map. slots_of map.pointers.entries };
 
-    ghost invariant = { λ map. AreRisingSlots (slots_of map.pointers.entries) };
+    ghost invariant = { λ map. IsSlotMap (slots_of map.pointers.entries) map.plain };
+}
+
+/// One, where a slot holds a pointer that is outside the table.
+fn plain_of(pointer: Option<Pointer>) -> u64
+    ensures { result ≡ plain_of pointer }
+{
+    match pointer {
+        Some(pointer) if pointer.kind == SlotKind::Plain => 1,
+        _ => 0,
+    }
+}
+
+/// A number without one part and with another, modulo 2^64.
+fn moved(number: u64, gone: u64, come: u64) -> u64
+    ensures { result ≡ moved number gone come }
+{
+    number.wrapping_sub(gone).wrapping_add(come)
 }
 
 impl SlotMap {
@@ -34,6 +55,7 @@ impl SlotMap {
     {
         SlotMap {
             pointers: BTreeMap::new(alloc),
+            plain: 0,
         }
     }
 
@@ -65,6 +87,14 @@ impl SlotMap {
         ensures { result ≡ length self.now }
     {
         self.pointers.len() as u64
+    }
+
+    /// How many slots hold a pointer that is outside the table. Takes no memory.
+    pub fn plain(&self) -> u64
+        ensures { result ≡ plain_in self.now }
+    {
+        let _bound = self.pointers.len();
+        self.plain
     }
 
     /// What the slot at a place holds. Takes no memory.
@@ -100,7 +130,8 @@ impl SlotMap {
             (self.new ≡ set_slot self.old (record { lane = place.lane; slot = place.slot; pointer = Some pointer })) }
         ensures refused { OnErr result (self.new ≡ self.old) }
     {
-        self.pointers.insert(place, pointer)?;
+        let gone = self.pointers.insert(place, pointer)?;
+        self.plain = moved(self.plain, plain_of(gone), plain_of(Some(pointer)));
         Ok(())
     }
 
@@ -108,7 +139,8 @@ impl SlotMap {
     fn empty(&mut self, place: SlotPlace)
         ensures { self.new ≡ set_slot self.old (record { lane = place.lane; slot = place.slot; pointer = None }) }
     {
-        let _gone = self.pointers.remove(&place);
+        let gone = self.pointers.remove(&place);
+        self.plain = moved(self.plain, plain_of(gone), 0);
     }
 
     /// The list of the slots, in rising order. The error is want of memory.
