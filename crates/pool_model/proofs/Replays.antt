@@ -1,6 +1,6 @@
 -- Logs that are replayed to a table's lists still are after a sync: a change more is appended and set, what leaves the flushing list is
 -- behind its checkpoint, and the logs swap as the lists do.
-use Rattle.std.proofs.Common.{◌≡◌, ℕ, zero, suc, ◌+◌, ◌<◌, Bool, true, false, cond, not, ◌&&◌, List, [], ◌∷◌, ◌++◌, length, filter, fold, take, drop, take-append-drop, append-nil, Option, Some, None, option_map, refl, sym, ap, subst, ◌∙◌, arith, ◌≤◌}
+use Rattle.std.proofs.Common.{◌≡◌, ℕ, zero, suc, ◌+◌, ◌<◌, Bool, true, false, cond, not, ◌&&◌, List, [], ◌∷◌, ◌++◌, length, filter, take, drop, take-append-drop, append-nil, Option, Some, None, option_map, refl, sym, ap, subst, ◌∙◌, arith, ◌≤◌}
 use Rattle.std.specs.Prelude.{◌==◌, ◌/◌, if◌then◌else◌}
 use Rattle.std.specs.List.{AllByRecursion, last_or}
 use Rattle.std.specs.Ordering.{is_eq, is_lt}
@@ -19,7 +19,7 @@ use Rattle.ddt_entry.specs.declared.entry.Change.{Change}
 use Rattle.ddt_entry.proofs.KeyLaws.{key_cmp_total, exact_keys, key_eq-symm}
 use Rattle.pool_model.specs.Table.{TableState, change_at, set_change, drop_change, is_past, log_change, logged, checkpoint_after, flushed, flush_limit, is_due, aged, swapped, sync_table, AreChangesRising}
 use Rattle.pool_model.specs.Logs.{last_changes, is_missing, is_left, left_in, Logs, appended, emptied_log, exchanged, logs_after}
-use Rattle.pool_model.specs.Replaying.{reached, replayed, Replays}
+use Rattle.pool_model.specs.Replaying.{reached, Replays}
 use Rattle.pool_model.proofs.Lists.{all_both, all_each, all_tested, filter_whole, pairs_filter, all_from, all_filter}
 use Rattle.pool_model.proofs.Sorted.{less_of, rising_fold}
 use Rattle.pool_model.proofs.TablePuts.{changes_put}
@@ -149,7 +149,7 @@ emptied-more change rest logs =
     let more : (length (change ∷ rest) == 0) ≡ false = grind (arith, nat_tests) in
     ap (λ (b : Bool). if b then record { active = logs.active; flushing = [] } else logs) more
 
-emptied-active : (flush : List Change) (logs : Logs) → (emptied_log flush logs).active ≡ logs.active
+pub emptied-active : (flush : List Change) (logs : Logs) → (emptied_log flush logs).active ≡ logs.active
 emptied-active [] logs = refl
 emptied-active (change ∷ rest) logs = ap (λ (l : Logs). l.active) (emptied-more change rest logs)
 

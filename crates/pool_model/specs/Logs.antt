@@ -1,6 +1,6 @@
 -- The two logs as they are kept: every change in the order in which it was appended, also where a key stands in a log twice, until the log
 -- is emptied. Which of its changes count, and what a sync of the table makes of the two.
-use Rattle.std.specs.Prelude.{◌≡◌, ℕ, Bool, true, false, ◌&&◌, ◌==◌, List, [], ◌∷◌, ◌++◌, length, filter, fold, Option, Some, None, if◌then◌else◌}
+use Rattle.std.specs.Prelude.{Bool, true, false, ◌&&◌, ◌==◌, List, [], ◌++◌, length, filter, fold, Option, Some, None, if◌then◌else◌}
 use Rattle.ddt_entry.specs.Changes.{key_in}
 use Rattle.ddt_entry.specs.declared.key.Key.{Key}
 use Rattle.ddt_entry.specs.declared.entry.Change.{Change}

@@ -1,10 +1,10 @@
 -- Worked examples of the logs as they are kept: what a sync makes of them beside its table.
-use Rattle.std.specs.Prelude.{◌≡◌, ℕ, List, [], ◌∷◌, ◌++◌, fold, replicate, Some, None}
+use Rattle.std.specs.Prelude.{◌≡◌, List, [], ◌∷◌, fold, replicate, Some, None}
 use Rattle.ddt_entry.specs.declared.entry.Change.{Change}
 use Rattle.pool_model.specs.Table.{empty_table}
 use Rattle.pool_model.specs.Logs.{empty_logs}
 use Rattle.pool_model.specs.Replaying.{LoggedTable, replayed, sync_logged}
-use Rattle.pool_model.specs.WorkedTables.{key, entry, to, gone, entries_from, changes_from}
+use Rattle.pool_model.specs.WorkedTables.{key, to, gone, entries_from, changes_from}
 
 abbrev pub at_first : LoggedTable
 at_first = record { table = empty_table; logs = empty_logs }
