@@ -1,5 +1,5 @@
 -- What a map's calls make of the list of its slots.
-use Rattle.std.proofs.Common.{◌≡◌, ℕ, Bool, true, false, cond, not, ◌&&◌, ◌||◌, ◌==◌, List, [], ◌∷◌, length, filter, find, Some, None, refl, sym, ap, subst, ◌∙◌, arith}
+use Rattle.std.proofs.Common.{◌≡◌, ℕ, Bool, true, false, cond, not, ◌&&◌, ◌||◌, ◌==◌, List, [], ◌∷◌, filter, find, Some, None, refl, sym, ap, subst, ◌∙◌, arith}
 use Rattle.std.specs.Prelude.{nat_lt, if◌then◌else◌}
 use Rattle.std.specs.List.{AllByRecursion}
 use Rattle.std.specs.Map.{lookup, remove_entry}
@@ -173,7 +173,3 @@ pub rising_removed_pair : (place : SlotPlace) (pairs : List (SlotPlace × SlotPo
 rising_removed_pair place pairs rising =
     subst AreRisingSlots (sym (slots_of-remove place pairs rising))
     (rising_set (slots_of pairs) (record { lane = place.lane; slot = place.slot; pointer = None }) rising)
-
-pub length-slots_of : (pairs : List (SlotPlace × SlotPointer)) → length (slots_of pairs) ≡ length pairs
-length-slots_of [] = refl
-length-slots_of (pair ∷ pairs) = omega (arith, length-slots_of pairs)
