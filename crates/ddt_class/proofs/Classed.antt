@@ -1,6 +1,6 @@
 -- The two classes of a stored table stay its classes when a home is put or taken out.
 use Rattle.std.proofs.Common.{◌≡◌, ℕ, ◌+◌, ◌-◌, ◌^◌, ◌<◌, ◌≤◌, Bool, true, false, not, ◌==◌, List, length, Option, refl, sym, ap, subst, ◌∙◌, arith}
-use Rattle.std.specs.Prelude.{if◌then◌else◌, nat_lt}
+use Rattle.std.specs.Prelude.{nat_lt}
 use Rattle.std.specs.List.{AllByRecursion}
 use Rattle.std.specs.Option.{option_or}
 use Rattle.std.proofs.lemmas.Bool.Decides.{nat_tests}
@@ -12,7 +12,7 @@ use Rattle.pool_model.specs.Table.{AreRising, entry_at, set_entry, drop_entry}
 use Rattle.pool_model.proofs.Lists.{all_from, all_filter, pairs_filter}
 use Rattle.pool_model.proofs.Sorted.{all_put, rising_put}
 use Rattle.pool_model.proofs.TablePuts.{entries_put}
-use Rattle.ddt_class.specs.Classes.{is_unique, is_duplicate, unique_in, duplicate_in, class_in, count_of, merged, put_in, home_before, IsStored, IsClassed}
+use Rattle.ddt_class.specs.Classes.{is_unique, is_duplicate, unique_in, duplicate_in, count_of, merged, put_in, home_before, IsStored, IsClassed}
 use Rattle.plain_table.proofs.HomeLists.{Below}
 use Rattle.ddt_class.proofs.Splits.{merged-split, length-split, at-split, filter_set, filter_unset, filter_swaps}
 use Rattle.ddt_class.proofs.Totals.{counts-set, counts-drop, counts-bound}
@@ -103,13 +103,6 @@ module _ (unique duplicate zap : List Entry) (counts : ℕ) (is : IsClassed uniq
   pub found_before : (key : Key) (is_own : Bool) → home_before is_own (entry_at key unique) (entry_at key duplicate) ≡ entry_at key zap
   found_before key true = found_first key
   found_before key false = found_last key
-
-  pub class_size : (at : ℕ) → length (class_in at zap) ≡ (if at == 0 then length unique else length duplicate)
-  class_size at = by_test (at == 0)
-    where
-      by_test : (b : Bool) → length (if b then unique_in zap else duplicate_in zap) ≡ (if b then length unique else length duplicate)
-      by_test true = ap length (sym is.unique_are)
-      by_test false = ap length (sym is.duplicate_are)
 
   -- what the homes count together is far from 2^128 where there are so few
   pub counts_small : length unique < 2 ^ 63 → length duplicate < 2 ^ 63 → counts + 2 ^ 64 < 2 ^ 128

@@ -1,5 +1,5 @@
 -- How many pointers the homes of a table count together, once one of them was set or dropped.
-use Rattle.std.proofs.Common.{◌≡◌, ℕ, ◌+◌, ◌-◌, ◌*◌, ◌^◌, ◌≤◌, Bool, true, false, cond, not, List, [], ◌∷◌, length, find, Option, Some, refl, sym, ap, ◌∙◌, arith}
+use Rattle.std.proofs.Common.{◌≡◌, ℕ, ◌+◌, ◌-◌, ◌*◌, ◌^◌, ◌≤◌, Bool, true, false, cond, not, List, [], ◌∷◌, length, find, Option, Some, refl, ap, arith}
 use Rattle.std.specs.Prelude.{if◌then◌else◌}
 use Rattle.std.specs.List.{AllByRecursion}
 use Rattle.std.specs.Option.{option_map}
@@ -10,14 +10,14 @@ use Rattle.std.proofs.lemmas.List.Sums.{sum_by-cons}
 use Rattle.ddt_entry.specs.Keys.{key_cmp, key_eq}
 use Rattle.ddt_entry.specs.declared.key.Key.{Key}
 use Rattle.ddt_entry.specs.declared.entry.Entry.{Entry}
-use Rattle.ddt_entry.proofs.KeyLaws.{is_eq-key_cmp, key_eq-same, key_eq-symm}
+use Rattle.ddt_entry.proofs.KeyLaws.{key_eq-same}
 use Rattle.pool_model.specs.Table.{AreRising, entry_at, set_entry, drop_entry}
 use Rattle.pool_model.proofs.Finding.{keys_same}
 use Rattle.pool_model.proofs.Lookups.{at-above}
 use Rattle.pool_model.proofs.TablePuts.{entries_put}
 use Rattle.ddt_class.specs.Classes.{counts_in, count_of, IsStored}
 use Rattle.plain_table.proofs.HomeLists.{Below}
-use Rattle.ddt_class.proofs.Splits.{below_all}
+use Rattle.ddt_class.proofs.Splits.{below_all, same_by_order}
 
 counts-cons : (e : Entry) (es : List Entry) → counts_in (e ∷ es) ≡ e.home.count + counts_in es
 counts-cons e es = sum_by-cons (λ (x : Entry). x.home.count) e es
@@ -38,23 +38,22 @@ counts-set entry [] rising = omega (arith, counts-cons entry [])
 counts-set entry (e ∷ es) rising =
     by_order (counts-set entry es rising.1) (key_cmp entry.key e.key) refl
   where
-    apart : (o : Ordering) → key_cmp entry.key e.key ≡ o → key_eq e.key entry.key ≡ is_eq o
-    apart o said = key_eq-symm e.key entry.key ∙ sym (is_eq-key_cmp entry.key e.key) ∙ ap is_eq said
-
     by_order : counts_in (set_entry entry es) + count_of (entry_at entry.key es) ≡ counts_in es + entry.home.count → (o : Ordering)
         → key_cmp entry.key e.key ≡ o
         → counts_in (if is_lt o then entry ∷ e ∷ es else (if is_eq o then entry ∷ es else e ∷ set_entry entry es)) + count_of
         (entry_at entry.key (e ∷ es)) ≡ counts_in (e ∷ es) + entry.home.count
     by_order rest Less said =
-        let none : count_of (entry_at entry.key (e ∷ es)) ≡ 0 = none_above entry.key entry (e ∷ es) (key_eq-same entry.key)
+        let none : count_of (entry_at entry.key (e ∷ es)) ≡ 0 =
+        none_above entry.key entry (e ∷ es) (key_eq-same entry.key)
         (ap is_lt said, below_all entry e es (ap is_lt said) rising.0) in
         omega (arith, none, counts-cons entry (e ∷ es))
     by_order rest Equal said =
-        let here : count_of (entry_at entry.key (e ∷ es)) ≡ e.home.count = ap (λ b. count_here entry.key b e es) (apart Equal said) in
+        let here : count_of (entry_at entry.key (e ∷ es)) ≡ e.home.count =
+        ap (λ b. count_here entry.key b e es) (same_by_order entry.key e.key Equal said) in
         omega (arith, here, counts-cons entry es, counts-cons e es)
     by_order rest Greater said =
         let there : count_of (entry_at entry.key (e ∷ es)) ≡ count_of (entry_at entry.key es) =
-        ap (λ b. count_here entry.key b e es) (apart Greater said) in
+        ap (λ b. count_here entry.key b e es) (same_by_order entry.key e.key Greater said) in
         omega (arith, there, rest, counts-cons e (set_entry entry es), counts-cons e es)
 
 pub counts-drop : (key : Key) (zap : List Entry) → AreRising zap

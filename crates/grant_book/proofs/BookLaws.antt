@@ -1,24 +1,16 @@
 -- Laws of a book of sectors: what giving out, giving back, releasing and settling leave of it.
-use Rattle.std.proofs.Common.{◌≡◌, ℕ, zero, suc, ◌+◌, ◌<◌, ◌≤◌, Bool, true, false, not, ◌&&◌, ◌⊎◌, cond, List, [], ◌∷◌, ◌++◌, inl, inr, length, take, drop, replicate, refl, sym, ap, subst, ⊎_elim, ◌∙◌, arith}
+use Rattle.std.proofs.Common.{◌≡◌, ℕ, zero, suc, ◌+◌, ◌<◌, ◌≤◌, Bool, true, false, not, ◌⊎◌, cond, List, [], ◌∷◌, ◌++◌, inl, inr, length, take, drop, replicate, refl, sym, ap, subst, ⊎_elim, ◌∙◌, arith}
 use Rattle.std.specs.Prelude.{nat_lt, slice_index_or, slice_set}
 use Rattle.std.specs.List.{count_by, AllByRecursion}
 use Rattle.std.proofs.lemmas.Bool.{false≢true, lt-ltb}
-use Rattle.std.proofs.lemmas.Bool.Decides.{eqb_tells, nat_tests}
-use Rattle.std.proofs.lemmas.List.{append-nil, drop_all, take_at, length-set, length-append, get_or-set_same, get_or-set_other}
-use Rattle.std.proofs.lemmas.List.Sums.{sum_by-cons}
+use Rattle.std.proofs.lemmas.List.{append-nil, drop_all, take_at, length-set, length-append, get_or-set_same}
 use Rattle.std.proofs.lemmas.List.FromFn.{fill_by_all}
 use Rattle.grant_book.specs.Sectors.{free_from, free_sectors, marked, AreFirstFree}
 use Rattle.grant_book.specs.Book.{is_kept, kept, IsTaken, IsBook}
 use Rattle.grant_book.proofs.FreeLaws.{length-free_sectors, free_from-free, IsFree, IsFreeFrom, found-free}
-use Rattle.grant_book.proofs.MarkLaws.{length-marked}
+use Rattle.grant_book.proofs.MarkLaws.{length-marked, free_cons}
 
 -- ---- Where a note says something
-
--- a note that says what isn't the default is one of the notes
-pub noted_within : (notes : List Bool) (at : ℕ) → slice_index_or notes at false ≡ true → at < length notes
-noted_within [] at said = absurd (false≢true said)
-noted_within (note ∷ notes) zero said = omega arith
-noted_within (note ∷ notes) (suc at) said = omega (arith, noted_within notes at said)
 
 -- a sector that is used stays used where another one is
 pub still_used : (used : List Bool) (sector at : ℕ) → slice_index_or used at false ≡ true
@@ -34,16 +26,6 @@ pub marked-keeps : (sectors : List ℕ) (used : List Bool) (at : ℕ) → slice_
 marked-keeps [] used at said = said
 marked-keeps (sector ∷ sectors) used at said = marked-keeps sectors (slice_set used sector true) at (still_used used sector at said)
 
--- a sector that is noted once another one was is that one, or was noted before
-pub set_or_before : (notes : List Bool) (at sector : ℕ) → slice_index_or (slice_set notes at true) sector false ≡ true
-    → (sector ≡ at) ⊎ (slice_index_or notes sector false ≡ true)
-set_or_before [] at sector said = inr said
-set_or_before (note ∷ notes) zero zero said = inl refl
-set_or_before (note ∷ notes) zero (suc sector) said = inr said
-set_or_before (note ∷ notes) (suc at) zero said = inr said
-set_or_before (note ∷ notes) (suc at) (suc sector) said =
-    ⊎_elim (λ same. inl (ap suc same)) (λ before. inr before) (set_or_before notes at sector said)
-
 -- a sector that is noted is the one whose note is taken away, or is noted then
 pub unset_before : (notes : List Bool) (at sector : ℕ) → slice_index_or notes sector false ≡ true
     → (sector ≡ at) ⊎ (slice_index_or (slice_set notes at false) sector false ≡ true)
@@ -53,9 +35,6 @@ unset_before (note ∷ notes) zero (suc sector) said = inr said
 unset_before (note ∷ notes) (suc at) zero said = inr said
 unset_before (note ∷ notes) (suc at) (suc sector) said =
     ⊎_elim (λ same. inl (ap suc same)) (λ there. inr there) (unset_before notes at sector said)
-
-free_cons : (is_used : Bool) (used : List Bool) → count_by not (is_used ∷ used) ≡ cond (not is_used) 1 0 + count_by not used
-free_cons is_used used = sum_by-cons (λ b. cond (not b) 1 0) is_used used
 
 -- a used sector that is given back is one more that is free
 pub free_unset : (used : List Bool) (sector : ℕ) → slice_index_or used sector false ≡ true
@@ -93,17 +72,6 @@ drop_set [] sector = refl
 drop_set (is_used ∷ used) zero = refl
 drop_set (is_used ∷ used) (suc sector) = drop_set used sector
 
-drop_free : (used : List Bool) (sector : ℕ) → sector < length used → slice_index_or used sector false ≡ false
-    → drop sector used ≡ false ∷ drop (suc sector) used
-drop_free [] sector within free = absurd (omega (arith, within))
-drop_free (is_used ∷ used) zero within free = ap (λ b. b ∷ used) free
-drop_free (is_used ∷ used) (suc sector) within free = drop_free used sector (omega (arith, within)) free
-
-drop_used : (used : List Bool) (sector : ℕ) → slice_index_or used sector false ≡ true → drop sector used ≡ true ∷ drop (suc sector) used
-drop_used [] sector said = absurd (false≢true said)
-drop_used (is_used ∷ used) zero said = ap (λ b. b ∷ used) said
-drop_used (is_used ∷ used) (suc sector) said = drop_used used sector said
-
 -- a number isn't among the free sectors from a later one on
 never_first : (n m : ℕ) (xs : List ℕ) (used : List Bool) → n < m → n ∷ xs ≡ free_from m used → ⊥
 never_first n m xs used below same =
@@ -138,32 +106,15 @@ unset_low first (true ∷ used) (suc low) (suc place) (suc m) below before is =
 unset_low first (false ∷ used) (suc low) (suc place) (suc m) below before is =
     absurd (never_first first (first + suc low) (free_from (first + 1) used) (drop low used) (omega arith) is)
 
-module _ (used : List Bool) (sector next : ℕ) (one : next ≡ suc sector) where
-  abbrev rest_then : List Bool → List ℕ
-  rest_then notes = free_from next (drop next notes)
-
-  -- a free sector that is used now is the next one that was found
-  pub taken_found : sector < length used → slice_index_or used sector false ≡ false
-      → sector ∷ free_from next (drop next (slice_set used sector true)) ≡ free_from sector (drop sector used)
-  taken_found within free =
-      subst (λ (n : ℕ). sector ∷ free_from n (drop n (slice_set used sector true)) ≡ free_from sector (drop sector used)) (sym one)
-      (ap (λ (us : List Bool). sector ∷ free_from (suc sector) us) (drop_set used sector)
-      ∙ ap (λ n. sector ∷ free_from n (drop (suc sector) used)) (omega arith)
-      ∙ sym (ap (free_from sector) (drop_free used sector within free)))
-
-  pub taken_low : sector < length used → slice_index_or used sector false ≡ false → free_sectors used ≡ free_from sector (drop sector used)
-      → free_sectors (slice_set used sector true) ≡ free_from next (drop next (slice_set used sector true))
-  taken_low within free is =
-      subst (λ (n : ℕ). free_sectors (slice_set used sector true) ≡ free_from n (drop n (slice_set used sector true))) (sym one)
-      (use_first 0 used sector (is ∙ ap (λ n. free_from n (drop sector used)) (omega arith)) within free
-      ∙ ap (λ n. free_from n (drop (suc sector) used)) (omega arith)
-      ∙ sym (ap (free_from (suc sector)) (drop_set used sector)))
-
-  -- a sector that is used is passed over
-  pub passed_over : slice_index_or used sector false ≡ true → free_from next (drop next used) ≡ free_from sector (drop sector used)
-  passed_over said =
-      subst (λ (n : ℕ). free_from n (drop n used) ≡ free_from sector (drop sector used)) (sym one)
-      (ap (λ n. free_from n (drop (suc sector) used)) (omega arith) ∙ sym (ap (free_from sector) (drop_used used sector said)))
+-- once a free sector in front of which none is free is used, the free ones are those behind it
+pub taken_low : (used : List Bool) (sector next : ℕ) → next ≡ suc sector → sector < length used → slice_index_or used sector false ≡ false
+    → free_sectors used ≡ free_from sector (drop sector used)
+    → free_sectors (slice_set used sector true) ≡ free_from next (drop next (slice_set used sector true))
+taken_low used sector next one within free is =
+    subst (λ (n : ℕ). free_sectors (slice_set used sector true) ≡ free_from n (drop n (slice_set used sector true))) (sym one)
+    (use_first 0 used sector (is ∙ ap (λ n. free_from n (drop sector used)) (omega arith)) within free
+    ∙ ap (λ n. free_from n (drop (suc sector) used)) (omega arith)
+    ∙ sym (ap (free_from (suc sector)) (drop_set used sector)))
 
 -- ---- Places that were found
 
@@ -258,17 +209,6 @@ module _ (used pending : List Bool) (free low : ℕ) (is : IsBook used pending f
         each sectors marks.1 all.1,
       )
 
-  -- ---- A place that is released
-
-  pub released_book : (place : ℕ) → slice_index_or used place false ≡ true → IsBook used (slice_set pending place true) free low
-  released_book place here = record {
-    alike = length-set pending place true ∙ is.alike;
-    free_is = is.free_is;
-    low_is = is.low_is;
-    held = λ sector said. ⊎_elim (λ same. ap (λ at. slice_index_or used at false) same ∙ here) (is.held sector)
-        (set_or_before pending place sector said);
-  }
-
   -- ---- A place that is given back
 
   pub given_book : (place m : ℕ) → m ≤ low → m ≤ place → slice_index_or pending place false ≡ false
@@ -291,55 +231,9 @@ pub record IsKeptTo (old pending now : List Bool) (sector : ℕ) : Type 0 where
   pub alike : length now ≡ length old
   pub notes : (k : ℕ) → slice_index_or now k false ≡ cond (nat_lt k sector) (is_kept old pending k) (slice_index_or old k false)
 
-pub kept_none : (old pending : List Bool) → IsKeptTo old pending old 0
-kept_none old pending = record {
-  alike = refl;
-  notes = λ k. ap (λ b. cond b (is_kept old pending k) (slice_index_or old k false)) (sym (none k));
-}
-  where
-    none : (k : ℕ) → nat_lt k 0 ≡ false
-    none k = grind (arith, nat_tests)
-
-module _ (old pending now : List Bool) (sector : ℕ) (is : IsKeptTo old pending now sector) where
-  -- one sector more
-  pub kept_more : (note : Bool) → sector < length old
-      → note ≡ (slice_index_or now sector false && not (slice_index_or pending sector false))
-      → IsKeptTo old pending (slice_set now sector note) (sector + 1)
-  kept_more note within said = record {
-    alike = length-set now sector note ∙ is.alike;
-    notes = λ k. ⊎_elim (λ same. here k (sym same.1)) (λ other. there k (λ same. other.1 (sym same))) (eqb_tells sector k);
-  }
-    where
-      later : (k n m : ℕ) → (k ≡ n → ⊥) → m ≡ n + 1 → nat_lt k n ≡ nat_lt k m
-      later k n m apart one = grind (arith, nat_tests, apart, one)
-
-      now_here : slice_index_or now sector false ≡ slice_index_or old sector false
-      now_here = is.notes sector ∙ ap (λ b. cond b (is_kept old pending sector) (slice_index_or old sector false)) (not_less sector)
-        where
-          not_less : (n : ℕ) → nat_lt n n ≡ false
-          not_less n = grind (arith, nat_tests)
-
-      at_sector : slice_index_or (slice_set now sector note) sector false ≡ cond (nat_lt sector (sector + 1)) (is_kept old pending sector)
-          (slice_index_or old sector false)
-      at_sector =
-          get_or-set_same now sector note false (omega (arith, within, is.alike)) ∙ said
-          ∙ ap (λ b. b && not (slice_index_or pending sector false)) now_here
-          ∙ sym (ap (λ b. cond b (is_kept old pending sector) (slice_index_or old sector false)) (lt-ltb sector (sector + 1) (omega arith)))
-
-      here : (k : ℕ) → k ≡ sector → slice_index_or (slice_set now sector note) k false ≡ cond (nat_lt k (sector + 1))
-          (is_kept old pending k) (slice_index_or old k false)
-      here k same = subst (λ (n : ℕ). slice_index_or (slice_set now sector note) n false ≡ cond (nat_lt n (sector + 1))
-          (is_kept old pending n) (slice_index_or old n false)) (sym same) at_sector
-
-      there : (k : ℕ) → (k ≡ sector → ⊥) → slice_index_or (slice_set now sector note) k false ≡ cond (nat_lt k (sector + 1))
-          (is_kept old pending k) (slice_index_or old k false)
-      there k apart =
-          get_or-set_other now sector k note false apart ∙ is.notes k
-          ∙ ap (λ b. cond b (is_kept old pending k) (slice_index_or old k false)) (later k sector (sector + 1) apart refl)
-
-  -- all of them
-  pub kept_all : length old ≤ sector → now ≡ kept old pending
-  kept_all past =
-      fill_by_all (is_kept old pending) now (length old) false is.alike
-      (λ k within. is.notes k ∙ ap (λ b. cond b (is_kept old pending k) (slice_index_or old k false))
-      (lt-ltb k sector (omega (arith, within, past))))
+-- all of them
+pub kept_all : (old pending now : List Bool) (sector : ℕ) → IsKeptTo old pending now sector → length old ≤ sector → now ≡ kept old pending
+kept_all old pending now sector is past =
+    fill_by_all (is_kept old pending) now (length old) false is.alike
+    (λ k within. is.notes k ∙ ap (λ b. cond b (is_kept old pending k) (slice_index_or old k false))
+    (lt-ltb k sector (omega (arith, within, past))))

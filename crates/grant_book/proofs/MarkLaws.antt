@@ -55,7 +55,7 @@ marked-at (sector ∷ sectors) used at default within =
 -- ---- How many are free
 
 -- a sector in front that isn't used is one more that is free
-free_cons : (is_used : Bool) (used : List Bool) → count_by not (is_used ∷ used) ≡ cond (not is_used) 1 0 + count_by not used
+pub free_cons : (is_used : Bool) (used : List Bool) → count_by not (is_used ∷ used) ≡ cond (not is_used) 1 0 + count_by not used
 free_cons is_used used = sum_by-cons (λ b. cond (not b) 1 0) is_used used
 
 -- one sector more that is used leaves at most one fewer free

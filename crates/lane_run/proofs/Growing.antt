@@ -1,16 +1,16 @@
 -- A pointer that comes to an empty slot makes one slot more.
-use Rattle.std.proofs.Common.{◌≡◌, ℕ, ◌+◌, Bool, true, false, not, List, [], ◌∷◌, ◌++◌, length, Option, Some, None, refl, ap, ◌∙◌, arith}
-use Rattle.std.specs.Prelude.{filter, IfSome, if◌then◌else◌}
+use Rattle.std.proofs.Common.{◌≡◌, ℕ, ◌+◌, true, false, not, List, [], ◌∷◌, ◌++◌, length, Option, Some, None, ap, ◌∙◌}
+use Rattle.std.specs.Prelude.{filter, IfSome}
 use Rattle.std.specs.List.{AllByRecursion, list_any}
 use Rattle.std.proofs.lemmas.Bool.{or_parts}
 use Rattle.ddt_entry.specs.declared.entry.Pointer.{Pointer as SlotPointer}
 use Rattle.pool_model.specs.declared.closed.SlotChange.{SlotChange}
 use Rattle.pool_model.proofs.Lists.{all_from, filter_whole}
-use Rattle.slot_table.specs.Slots.{stands_before}
-use Rattle.slot_table.specs.Slots.{is_slot_at, insert_slot, slot_with, set_slot}
+use Rattle.slot_table.specs.Slots.{is_slot_at, slot_with, set_slot}
 use Rattle.table_state.specs.Pools.{Held, slots_after}
 use Rattle.table_state.specs.Sealed.{changed_slot}
 use Rattle.slot_table.specs.declared.slot.SlotRecord.{SlotRecord}
+use Rattle.slot_table.proofs.SlotLaws.{length_inserted}
 use Rattle.table_state.proofs.SlotsAfter.{Makes, each_after}
 use Rattle.table_state.proofs.SlotsOf.{change_behind}
 use Rattle.table_state.proofs.UnusedOf.{each_fails}
@@ -19,15 +19,6 @@ use Rattle.lane_run.specs.Live.{Live, is_change_at, is_taken}
 -- no slot at this place
 abbrev NotAt : (lane slot : ℕ) → SlotRecord → Type 0
 NotAt lane slot held = is_slot_at lane slot held ≡ false
-
-length_inserted : (new : SlotRecord) (slots : List SlotRecord) → length (insert_slot new slots) ≡ length slots + 1
-length_inserted new [] = refl
-length_inserted new (held ∷ slots) = by_test (stands_before new held) (length_inserted new slots)
-  where
-    by_test : (b : Bool) → length (insert_slot new slots) ≡ length slots + 1
-        → length (if b then new ∷ held ∷ slots else held ∷ insert_slot new slots) ≡ length (held ∷ slots) + 1
-    by_test true more = omega arith
-    by_test false more = omega (arith, more)
 
 -- where the slot was empty, a change that brings a pointer to it makes one slot more
 length_brought : (slots : List SlotRecord) (change : SlotChange) (pointer : SlotPointer) → change.pointer ≡ Some pointer

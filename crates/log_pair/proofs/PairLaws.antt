@@ -1,15 +1,14 @@
 -- The lists of a pair stay what its logs are replayed to, and its calls are steps of a table's sync.
-use Rattle.std.proofs.Common.{◌≡◌, Bool, true, false, List, [], ◌∷◌, append-nil, fold, None, refl, sym, ap, ◌∙◌}
-use Rattle.std.specs.Prelude.{if◌then◌else◌}
+use Rattle.std.proofs.Common.{◌≡◌, true, List, [], ◌∷◌, append-nil, fold, None, refl, sym, ap, ◌∙◌}
 use Rattle.std.proofs.lemmas.List.{append_assoc}
 use Rattle.ddt_entry.specs.Changes.{key_in}
 use Rattle.ddt_entry.specs.declared.entry.Change.{Change}
-use Rattle.pool_model.specs.Table.{TableState, log_change, logged, is_due, aged, swapped}
-use Rattle.pool_model.specs.Logs.{Logs, last_changes, is_left, left_in, appended, exchanged}
+use Rattle.pool_model.specs.Table.{TableState, log_change, logged}
+use Rattle.pool_model.specs.Logs.{Logs, last_changes, is_left, left_in, appended}
 use Rattle.pool_model.proofs.Lists.{all_each, filter_whole}
 use Rattle.pool_model.proofs.Replays.{log_change_replays, left_in-first}
 use Rattle.log_object.specs.Logged.{Logged, with_checkpoint}
-use Rattle.log_pair.specs.Paired.{Paired, pair_of, as_table, IsReplayed, of_table, with_change, flush_from, swapped_pair}
+use Rattle.log_pair.specs.Paired.{Paired, pair_of, as_table, IsReplayed, of_table, with_change, flush_from}
 
 -- ---- What each call keeps
 
@@ -48,17 +47,3 @@ logged-pair (change ∷ changes) table logs =
     logged-pair changes (log_change table change) (appended (change ∷ []) logs)
     ∙ ap (λ (log : List Change). of_table (logged changes (log_change table change)) (record { active = log; flushing = logs.flushing }))
     (append_assoc logs.active (change ∷ []) changes)
-
--- a swap of logs that are due is its third
-pub swapped-pair : (table : TableState) (logs : Logs) → is_due (aged table) ≡ true
-    → swapped_pair (of_table table logs) ≡ of_table (swapped table) (exchanged (is_due (aged table)) logs)
-swapped-pair table logs due =
-    ap (λ (b : Bool). of_table (if b then record table { flush = table.active; active = []; age = 0; checkpoint = None } else aged table)
-    (exchanged b logs)) (sym due)
-
--- where they aren't due, it leaves them as they are
-pub aged-pair : (table : TableState) (logs : Logs) → is_due (aged table) ≡ false
-    → of_table table logs ≡ of_table (swapped table) (exchanged (is_due (aged table)) logs)
-aged-pair table logs due =
-    ap (λ (b : Bool). of_table (if b then record table { flush = table.active; active = []; age = 0; checkpoint = None } else aged table)
-    (exchanged b logs)) (sym due)

@@ -94,7 +94,13 @@ module _ (page : ChainPage) (fits : FitsPage page) where
       ap (drop 48) (grouped ∙ sym (append_assoc chain_text number (pointer ++ behind))
       ∙ sym (append_assoc (chain_text ++ number) pointer behind))
       ∙ drop_at (chain_text ++ number ++ pointer) behind 48
-      (omega (arith, length-append (chain_text ++ number) pointer, length-append chain_text number, length-number_bytes 4 (length page.records), length-pointer_bytes page.next fits.next))
+      (omega (
+        arith,
+        length-append (chain_text ++ number) pointer,
+        length-append chain_text number,
+        length-number_bytes 4 (length page.records),
+        length-pointer_bytes page.next fits.next,
+      ))
 
   pub chain_page_in-chain_page_bytes : chain_page_in (chain_page_bytes page) ≡ page
   unfolding behind

@@ -1,5 +1,5 @@
 -- What a map's calls make of the list of its entries.
-use Rattle.std.proofs.Common.{◌≡◌, Bool, true, false, cond, not, List, [], ◌∷◌, length, find, Some, refl, sym, ap, subst, ◌∙◌, arith}
+use Rattle.std.proofs.Common.{◌≡◌, Bool, true, false, cond, not, List, [], ◌∷◌, find, Some, refl, sym, ap, subst, ◌∙◌}
 use Rattle.std.specs.Prelude.{if◌then◌else◌}
 use Rattle.std.specs.List.{AllByRecursion}
 use Rattle.std.specs.Map.{lookup, remove_entry}
@@ -103,7 +103,3 @@ pub rising-remove : (key : Key) (pairs : List (Key × Home)) → AreRising (entr
 rising-remove key pairs rising =
     subst AreRising (sym (entries_of-remove key pairs rising))
     (pairs_filter Below (λ (e : Entry). not (key_eq e.key key)) (entries_of pairs) rising)
-
-pub length-entries_of : (pairs : List (Key × Home)) → length (entries_of pairs) ≡ length pairs
-length-entries_of [] = refl
-length-entries_of (pair ∷ pairs) = omega (arith, length-entries_of pairs)

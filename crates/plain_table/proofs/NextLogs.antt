@@ -1,21 +1,15 @@
 -- The logs after a sync, by the table that it left: an age of 0 tells that they were swapped.
-use Rattle.std.proofs.Common.{◌≡◌, ℕ, ◌+◌, ◌^◌, ◌-◌, min, Bool, true, false, List, [], length, refl, ap, arith, None, sym, ◌∙◌}
+use Rattle.std.proofs.Common.{◌≡◌, ℕ, ◌+◌, ◌^◌, ◌-◌, min, Bool, true, false, List, [], ap, arith, None, sym, ◌∙◌}
 use Rattle.std.specs.Prelude.{◌==◌, if◌then◌else◌}
 use Rattle.std.proofs.lemmas.Bool.Decides.{nat_tests}
 use Rattle.ddt_entry.specs.declared.entry.Change.{Change}
 use Rattle.pool_model.specs.Table.{TableState, logged, flushed, flush_limit, is_due, aged, swapped, sync_table}
 use Rattle.pool_model.specs.Logs.{Logs, appended, emptied_log, exchanged, logs_settled, logs_after}
+use Rattle.pool_model.proofs.Replays.{emptied-active}
 use Rattle.plain_table.specs.Logged.{logs_by}
 
 older : (age : ℕ) → (min (age + 1) (2 ^ 64 - 1) == 0) ≡ false
 older age = grind (arith, nat_tests)
-
-emptied_keeps : (flush : List Change) (logs : Logs) → (emptied_log flush logs).active ≡ logs.active
-emptied_keeps flush logs = by_test (length flush == 0)
-  where
-    by_test : (b : Bool) → (if b then record { active = logs.active; flushing = [] } else logs).active ≡ logs.active
-    by_test true = refl
-    by_test false = refl
 
 -- once the logs may swap
 settled_by : (changes : List Change) (table : TableState) (logs : Logs)
@@ -30,7 +24,7 @@ settled_by changes table logs = by_due (is_due (aged table))
 
     by_due : (b : Bool) → logs_by (after b) changes logs ≡ exchanged b (emptied_log table.flush (appended changes logs))
     by_due true = same_active (emptied_log table.active (appended changes logs)) (emptied_log table.flush (appended changes logs))
-        (emptied_keeps table.active (appended changes logs) ∙ sym (emptied_keeps table.flush (appended changes logs)))
+        (emptied-active table.active (appended changes logs) ∙ sym (emptied-active table.flush (appended changes logs)))
     by_due false = ap (λ b. exchanged b (emptied_log table.flush (appended changes logs))) (older table.age)
 
 -- they are those of the definitions

@@ -149,7 +149,7 @@ emptied-more change rest logs =
     let more : (length (change ∷ rest) == 0) ≡ false = grind (arith, nat_tests) in
     ap (λ (b : Bool). if b then record { active = logs.active; flushing = [] } else logs) more
 
-emptied-active : (flush : List Change) (logs : Logs) → (emptied_log flush logs).active ≡ logs.active
+pub emptied-active : (flush : List Change) (logs : Logs) → (emptied_log flush logs).active ≡ logs.active
 emptied-active [] logs = refl
 emptied-active (change ∷ rest) logs = ap (λ (l : Logs). l.active) (emptied-more change rest logs)
 

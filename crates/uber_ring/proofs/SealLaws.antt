@@ -34,7 +34,8 @@ lens =
     240 ∷ 8 ∷ 8 ∷ 8 ∷ 3672 ∷ []
 
 grouped : (a1 a2 a3 a4 a5 a6 a7 a8 a9 b1 b2 b3 b4 b5 b6 p c1 c2 c3 z : List ℕ)
-    → ((((a1 ++ a2 ++ a3 ++ a4 ++ a5 ++ a6 ++ a7 ++ a8 ++ a9) ++ (b1 ++ b2 ++ b3 ++ b4 ++ b5 ++ b6)) ++ p) ++ (c1 ++ c2 ++ c3)) ++ z ≡ concat (a1 ∷ a2 ∷ a3 ∷ a4 ∷ a5 ∷ a6 ∷ a7 ∷ a8 ∷ a9 ∷ b1 ∷ b2 ∷ b3 ∷ b4 ∷ b5 ∷ b6 ∷ p ∷ c1 ∷ c2 ∷ c3 ∷ z ∷ [])
+    → ((((a1 ++ a2 ++ a3 ++ a4 ++ a5 ++ a6 ++ a7 ++ a8 ++ a9) ++ (b1 ++ b2 ++ b3 ++ b4 ++ b5 ++ b6)) ++ p) ++ (c1 ++ c2 ++ c3)) ++ z
+    ≡ concat (a1 ∷ a2 ∷ a3 ∷ a4 ∷ a5 ∷ a6 ∷ a7 ∷ a8 ∷ a9 ∷ b1 ∷ b2 ∷ b3 ∷ b4 ∷ b5 ∷ b6 ∷ p ∷ c1 ∷ c2 ∷ c3 ∷ z ∷ [])
 grouped a1 a2 a3 a4 a5 a6 a7 a8 a9 b1 b2 b3 b4 b5 b6 p c1 c2 c3 z = simp (append_assoc, append-nil)
 
 signed_parts : (seal : Seal) → signed_bytes seal ≡ concat (parts_of seal)
@@ -105,7 +106,8 @@ seal_in-body_bytes seal fits =
     (part seal fits 17 (omega arith)) fits.counts in
     let pages : number_at 8 384 (body_bytes seal) ≡ seal.pages = number_at-is 8 384 seal.pages (body_bytes seal)
     (part seal fits 18 (omega arith)) fits.pages in
-    rw (version, tag, group, sectors, quota, quota_flag, modes, age, active_changes, flushing_changes, checkpoint_flag, checkpoint_len, checkpoint_digest, pointers, homes, counts, pages) refl
+    rw (version, tag, group, sectors, quota, quota_flag, modes, age, active_changes, flushing_changes)
+    (rw (checkpoint_flag, checkpoint_len, checkpoint_digest, pointers, homes, counts, pages) refl)
 
 length-signed_bytes : (seal : Seal) → FitsSeal seal → length (signed_bytes seal) ≡ 4064
 unfolding signed_bytes settings_bytes state_bytes sums_bytes
@@ -120,7 +122,8 @@ length-signed_bytes seal fits =
 pub length-body_bytes : (seal : Seal) → FitsSeal seal → length (body_bytes seal) ≡ 4096
 unfolding body_bytes
 length-body_bytes seal fits =
-    omega (arith, length-append (signed_bytes seal) (sha256 (signed_bytes seal)), length-signed_bytes seal fits, length-sha256 (signed_bytes seal))
+    let appended = length-append (signed_bytes seal) (sha256 (signed_bytes seal)) in
+    omega (arith, appended, length-signed_bytes seal fits, length-sha256 (signed_bytes seal))
 
 same_bytes : (xs ys : List ℕ) → xs ≡ ys → bytes_eq xs ys ≡ true
 same_bytes xs ys same = (bytes_eq-Decides xs ys).1 same
@@ -145,7 +148,8 @@ is_body-body_bytes seal fits = rw (has_text seal fits, has_digest seal fits) ref
 -- a seal is read back from its body
 pub body_seal-body_bytes : (seal : Seal) → FitsSeal seal → body_seal seal.version (seal.group % 16) (body_bytes seal) ≡ Some seal
 body_seal-body_bytes seal fits =
-    rw (is_body-body_bytes seal fits, seal_in-body_bytes seal fits, eq-eqb seal.version seal.version refl, eq-eqb (seal.group % 16) (seal.group % 16) refl) refl
+    rw (is_body-body_bytes seal fits, seal_in-body_bytes seal fits)
+    (rw (eq-eqb seal.version seal.version refl, eq-eqb (seal.group % 16) (seal.group % 16) refl) refl)
 
 -- ---- writing what was read
 
@@ -183,7 +187,8 @@ parts_again body fits len text gap padding =
     let homes = number_bytes-at_8 368 body fits (omega arith) in
     let counts = number_bytes-at_8 376 body fits (omega arith) in
     let pages = number_bytes-at_8 384 body fits (omega arith) in
-    rw (← text, version, tag, group, sectors, quota, quota_flag, ← gap, age, active_changes, flushing_changes, checkpoint_flag, checkpoint_len, pointers, homes, counts, pages, ← padding) refl
+    rw (← text, version, tag, group, sectors, quota, quota_flag, ← gap, age, active_changes, flushing_changes)
+    (rw (checkpoint_flag, checkpoint_len, pointers, homes, counts, pages, ← padding) refl)
 
 -- a body whose left out bytes are zeros is the one of the seal that it holds
 pub body_bytes-seal_in : (body : List ℕ) → AreBytes body → length body ≡ 4096 → is_body body ≡ true → bytes_at 4 44 body ≡ zeros 4

@@ -17,8 +17,12 @@ pages-init g c =
     (chain_in image sectors c.args.named.now.items c.args.root.now) most c.args.named.now.items c.args.out.now.items c.args.out.now.items
     pointer) in
     let all : sectors ≡ c.sectors-sectors.result - 0 = omega (arith, c.sectors-sectors.ensures.count) in
-    let start = told_start told sectors c.args.named.now.items c.args.out.now.items c.args.root.now in
-    (subst (so (c.sectors-sectors.result - 0)) (sym c.pointer_or_null-pointer.ensures) (subst (λ most. so most (pointer_or_null c.args.root.now)) all start), c.sectors-sectors.ensures.count, omega arith)
+    let start = told_start told sectors c.args.named.now.items c.args.out.now.items c.args.root.now in (
+      subst (so (c.sectors-sectors.result - 0)) (sym c.pointer_or_null-pointer.ensures)
+          (subst (λ most. so most (pointer_or_null c.args.root.now)) all start),
+      c.sectors-sectors.ensures.count,
+      omega arith,
+    )
 
 pub returns-then-is_null_pointer-clause-read : goal.returns-then-is_null_pointer-clause-read
 returns-then-is_null_pointer-clause-read g c =

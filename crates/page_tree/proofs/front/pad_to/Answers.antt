@@ -12,5 +12,8 @@ zeros-init g c =
 pub zeros-preserved : goal.zeros-preserved
 zeros-preserved g c =
     let front = c.args.front.now.items in
-    let below : length front ≤ c.zeros.counter = omega arith in
-    (c.push.ensures.items ∙ ap (λ (xs : List ℕ). xs ++ 0 ∷ []) c.zeros.invariant.0 ∙ zeros_more front c.zeros.counter (length front) below, omega (arith, c.push.ensures.len, c.zeros.invariant.1))
+    let below : length front ≤ c.zeros.counter = omega arith in (
+      c.push.ensures.items ∙ ap (λ (xs : List ℕ). xs ++ 0 ∷ []) c.zeros.invariant.0
+          ∙ zeros_more front c.zeros.counter (length front) below,
+      omega (arith, c.push.ensures.len, c.zeros.invariant.1),
+    )
