@@ -1,6 +1,6 @@
 -- What a change makes of the sums over the counted homes: its key's share goes, and the one of its new count comes.
-use Rattle.std.proofs.Common.{◌≡◌, ℕ, ◌+◌, ◌*◌, Bool, true, false, cond, not, List, [], ◌∷◌, find, map, Option, Some, None, sum_by, zero, refl, sym, ap, ◌∙◌, arith}
-use Rattle.std.proofs.lemmas.List.Sums.{sum_by-cons}
+use Rattle.std.proofs.Common.{◌≡◌, ℕ, ◌+◌, ◌*◌, Bool, true, false, cond, not, List, [], ◌∷◌, ◌++◌, find, map, Option, Some, None, sum_by, zero, refl, sym, ap, ◌∙◌, arith}
+use Rattle.std.proofs.lemmas.List.Sums.{sum_by-cons, sum_by_push}
 use Rattle.std.specs.Prelude.{nat_lt, if◌then◌else◌}
 use Rattle.std.specs.List.{AllByRecursion, range_with_len}
 use Rattle.std.proofs.lemmas.Bool.Decides.{nat_tests}
@@ -117,6 +117,13 @@ moved_by sum gone come next same = omega (arith, same)
 
 -- ---- All sums
 
+one_small : (count : ℕ) → wrapped (one_of count) ≡ one_of count
+one_small count = by_test (nat_lt 0 count)
+  where
+    by_test : (b : Bool) → wrapped (if b then 1 else 0) ≡ (if b then 1 else 0)
+    by_test true = refl
+    by_test false = refl
+
 module _ (passes : ℕ → Bool) where
   abbrev seen : ℕ → ℕ
   seen count = if passes count then count else 0
@@ -151,13 +158,6 @@ module _ (passes : ℕ → Bool) where
 
       whole_none : (l : ℕ) → whole_share l 0 ≡ 0
       whole_none l = ap (λ n. n * l) seen_none ∙ omega arith
-
-      one_small : (count : ℕ) → wrapped (one_of count) ≡ one_of count
-      one_small count = by_test (nat_lt 0 count)
-        where
-          by_test : (b : Bool) → wrapped (if b then 1 else 0) ≡ (if b then 1 else 0)
-          by_test true = refl
-          by_test false = refl
 
       before : ℕ
       before = seen (count_at (key_in change) homes)
@@ -228,3 +228,49 @@ totals_logged table change is =
     (ap count_in (counted_at table (key_in change) is) ∙ count_counted (found table (key_in change)))
     ∙ ap (λ n. totals_moved (key_in change).len (count_in (found table (key_in change))) n (totals_in (counted_homes table)))
     (count_counted (home_in change))
+
+-- ---- One home more
+
+module _ (passes : ℕ → Bool) where
+  sum_pushed : (homes : List Entry) (e : Entry)
+      → key_sum (seen passes) (homes ++ e ∷ [])
+      ≡ sum_moved e.key.len (seen passes 0) (seen passes e.home.count) (key_sum (seen passes) homes)
+  sum_pushed homes e = λ i. record { keys = keys i; allocated = once i; referenced = whole i }
+    where
+      at : (share : Entry → ℕ) (gone : ℕ) → gone ≡ 0
+          → wrapped (sum_by share (homes ++ e ∷ [])) ≡ moved (wrapped (sum_by share homes)) (wrapped gone) (wrapped (share e))
+      at share gone none =
+          moved_by (sum_by share homes) gone (share e) (sum_by share (homes ++ e ∷ [])) (omega (arith, none, sum_by_push share homes e))
+
+      none_of : one_of (seen passes 0) ≡ 0
+      none_of = ap one_of (seen_none passes)
+
+      keys : (key_sum (seen passes) (homes ++ e ∷ [])).keys
+          ≡ moved (key_sum (seen passes) homes).keys (one_of (seen passes 0)) (one_of (seen passes e.home.count))
+      keys =
+          at (λ x. one_of (seen passes x.home.count)) (one_of (seen passes 0)) none_of
+          ∙ ap (λ n. moved (key_sum (seen passes) homes).keys n (wrapped (one_of (seen passes e.home.count)))) (one_small (seen passes 0))
+          ∙ ap (moved (key_sum (seen passes) homes).keys (one_of (seen passes 0))) (one_small (seen passes e.home.count))
+
+      once : (key_sum (seen passes) (homes ++ e ∷ [])).allocated
+          ≡ moved (key_sum (seen passes) homes).allocated (wrapped (one_of (seen passes 0) * e.key.len))
+          (wrapped (one_of (seen passes e.home.count) * e.key.len))
+      once =
+          at (λ x. one_of (seen passes x.home.count) * x.key.len) (one_of (seen passes 0) * e.key.len)
+          (ap (λ n. n * e.key.len) none_of ∙ omega arith)
+
+      whole : (key_sum (seen passes) (homes ++ e ∷ [])).referenced
+          ≡ moved (key_sum (seen passes) homes).referenced (wrapped (seen passes 0 * e.key.len))
+          (wrapped (seen passes e.home.count * e.key.len))
+      whole =
+          at (λ x. seen passes x.home.count * x.key.len) (seen passes 0 * e.key.len)
+          (ap (λ n. n * e.key.len) (seen_none passes) ∙ omega arith)
+
+pub totals_pushed : (homes : List Entry) (e : Entry)
+    → totals_in (homes ++ e ∷ []) ≡ totals_moved e.key.len 0 e.home.count (totals_in homes)
+totals_pushed homes e = λ i. record {
+  all = sum_pushed everyone homes e i;
+  refs = moved_by (sum_by (λ (x : Entry). x.home.count) homes) 0 e.home.count (sum_by (λ (x : Entry). x.home.count) (homes ++ e ∷ []))
+      (omega (arith, sum_by_push (λ (x : Entry). x.home.count) homes e)) i;
+  buckets = map (λ b. sum_pushed (is_in_bucket b) homes e i) (range_with_len 0 21);
+}

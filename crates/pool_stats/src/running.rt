@@ -6,6 +6,7 @@ ghost use Rattle.pool_model.specs.Stats.{stats_of};
 ghost use Rattle.pool_stats.specs.Totals.{one_of, in_bucket, totals_in, moved, wrapped, sum_moved, totals_moved, bucket_at, bucket_told, unique_in, stats_by, AreHomesOf};
 
 use crate::totals::{NO_KEYS, is_in_bucket};
+use ddt_entry::Entry;
 use pool_model::{BUCKETS, Bucket, Stats};
 
 /// How many keys, and the bytes of their blocks.
@@ -121,6 +122,17 @@ impl RunningTotals {
             refs: 0,
             buckets: [NO_SUM; BUCKETS],
         }
+    }
+
+    /// The totals of a pool that counts these homes.
+    pub fn over(homes: &[Entry]) -> RunningTotals
+        ensures { result ≡ totals_in homes.now }
+    {
+        let mut totals = RunningTotals::new();
+        'homes: for entry in homes {
+            totals.change(entry.key.len, 0, entry.home.count);
+        }
+        totals
     }
 
     /// The count of a key of this length changes, where it is 0 of a key that isn't counted.

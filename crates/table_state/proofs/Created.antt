@@ -126,6 +126,7 @@ new_is_held tag sectors image enough few there seals = record {
   logs_are = refl;
   pages_are = refl;
   keys_are = refl;
+  totals_are = refl;
   keys_few = omega arith;
   used_are = used_by_none sectors;
   settled = refl;
@@ -154,6 +155,7 @@ new_is_sound tag sectors enough few = record {
   replays = record { active = refl; flush = refl };
   sorted = empty_sorted;
   keys_are = refl;
+  totals_are = refl;
   keys_few = omega arith;
   counts = λ key home found. absurd (cc found);
 }

@@ -16,6 +16,7 @@ pub mod SlotsOf
 pub mod SoundOf
 pub mod Spelled
 pub mod Stands
+pub mod StatsOf
 pub mod Syncing
 pub mod TableBack
 pub mod TableRoom

@@ -80,7 +80,7 @@ few_slots held sound = length-rising held.sectors held.group held.slots sound.sl
 
 -- ---- What homes count
 
-count_of : (ps : List Pointer) (home : Home) → home_of_pointers ps ≡ Some home → home.count ≡ length ps
+pub count_of : (ps : List Pointer) (home : Home) → home_of_pointers ps ≡ Some home → home.count ≡ length ps
 count_of [] home is = absurd (cc is)
 count_of (p ∷ ps) home is = ap count_in (sym is)
   where

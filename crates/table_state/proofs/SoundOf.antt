@@ -20,6 +20,7 @@ use Rattle.pool_model.specs.Logs.{last_changes, is_missing}
 use Rattle.table_state.specs.SealForms.{is_formed, has_group, has_size, has_flags, has_modes, has_checkpoint, fewest_sectors, most_sectors, last_group, checkpoint_in}
 use Rattle.table_state.specs.SlotRecords.{is_slot, in_range, slot_at, slot_in, kind_said, kind_at, slot_of as slot_said}
 use Rattle.slot_table.specs.Slots.{AreRisingSlots}
+use Rattle.pool_stats.specs.Totals.{totals_in}
 use Rattle.table_state.specs.Flat.{Flat, IsRead, table_in, pointer_of, logs_in}
 use Rattle.table_state.specs.Pools.{Held, IsHeld}
 use Rattle.pool_model.specs.Replaying.{Replays}
@@ -212,6 +213,7 @@ module _ (image : Image) (held : Held) (pool : Pool) (table : TableState) (is : 
         replays = held_replays;
         keys_are = is.keys_are ∙ ap (λ (t : TableState). length (counted_homes t)) (sym is.table_is);
         keys_few = is.keys_few;
+        totals_are = is.totals_are ∙ ap (λ (t : TableState). totals_in (counted_homes t)) (sym is.table_is);
         sorted = subst IsTable (sym table_same) (is_table_in seal flat is.stands.whole);
         slots_rising = subst AreRisingSlots (sym is.slots_are) is.stands.whole.slots_rising;
         counts = counts_held image held pool table is;

@@ -49,6 +49,7 @@ counts_match : (pool : Pool) (table : TableState) → Matches pool table
 counts_match pool table matches =
     map-same key_count (λ (e : Entry). record { key = e.key; count = count_at pool e.key }) (counted_homes table)
     (all_from_both (λ (e : Entry). found table e.key ≡ Some e.home) (λ (e : Entry). nat_lt 0 e.home.count ≡ true)
+    (λ (e : Entry). key_count e ≡ record { key = e.key; count = count_at pool e.key })
     (λ e there some. entry_counts pool table matches e there some) (counted_homes table)
     (all_filter (λ (e : Entry). found table e.key ≡ Some e.home) (λ (e : Entry). nat_lt 0 e.home.count) (entries_found table)
     (each_found table matches.sorted))
@@ -80,7 +81,10 @@ plain_slots image table (slot ∷ slots) =
     omega (arith, plain_slots image table slots,
         sum_by-cons (λ (s : SlotRecord). cond (is_outside s.pointer) 1 0) slot slots,
         sum_by-cons (λ (p : Pointer). cond (is_plain p.mark) 1 0) (pointer_of image table slot) (map (pointer_of image table) slots),
-        ap (λ b. cond b 1 0) (plain_alike slot.pointer.kind (found table slot.pointer.key) slot.pointer.place slot.pointer.birth))
+        ap one (plain_alike slot.pointer.kind (found table slot.pointer.key) slot.pointer.place slot.pointer.birth))
+  where
+    one : Bool → ℕ
+    one b = cond b 1 0
 
 few_references : (image : Image) (table : TableState) (slots : List SlotRecord) → length slots ≤ 1048576
     → All (λ (slot : SlotRecord). slot.pointer.key.len ≤ 4096) slots → AreSmall (map reference_of (map (pointer_of image table) slots))

@@ -10,17 +10,20 @@ use Rattle.pool_model.specs.Mirrors.{Stored}
 use Rattle.pool_model.specs.Space.{used_sectors}
 use Rattle.pool_model.specs.Table.{TableState, empty_table, counted_homes}
 use Rattle.pool_model.specs.Logs.{Logs, empty_logs}
+use Rattle.pool_stats.specs.Totals.{totals_in}
+use Rattle.pool_stats.specs.declared.running.RunningTotals.{RunningTotals}
 use Rattle.slot_table.specs.Slots.{set_slot}
 use Rattle.table_state.specs.Flat.{StandsFor, pointer_of, logs_in}
 use Rattle.slot_table.specs.declared.slot.SlotRecord.{SlotRecord}
 
--- what a pool in memory keeps: the slots, the table and its logs, how many homes it counts, the sectors of the image's pages, which sectors are
--- used, and which of them the next settling of the book lets go, the settings, and the seal's numbers
+-- what a pool in memory keeps: the slots, the table and its logs, how many homes it counts, with the sums over them, the sectors of the image's
+-- pages, which sectors are used, and which of them the next settling of the book lets go, the settings, and the seal's numbers
 pub record Held : Type 0 where
   pub slots : List SlotRecord
   pub table : TableState
   pub logs : Logs
   pub keys : ℕ
+  pub totals : RunningTotals
   pub pages : List ℕ
   pub used : List Bool
   pub pending : List Bool
@@ -39,6 +42,7 @@ pub record IsHeld (image : Image) (held : Held) (pool : Pool) (table : TableStat
   pub pages_are : held.pages ≡ stands.flat.named
   pub keys_are : held.keys ≡ length (counted_homes table)
   pub keys_few : held.keys < 2 ^ 62
+  pub totals_are : held.totals ≡ totals_in (counted_homes table)
   pub used_are : held.used ≡ used_sectors held.sectors held.pages pool table
   pub settled : held.pending ≡ replicate held.sectors false
   pub modes_are : held.modes ≡ pool.modes
@@ -53,6 +57,7 @@ new_held tag sectors = record {
   table = empty_table;
   logs = empty_logs;
   keys = 0;
+  totals = totals_in [];
   pages = [];
   used = ring_used sectors;
   pending = replicate sectors false;

@@ -5,6 +5,7 @@ use Rattle.ddt_entry.specs.Spelling.{IsKeyLength}
 use Rattle.ddt_entry.specs.declared.key.Key.{Key}
 use Rattle.ddt_entry.specs.declared.entry.Home.{Home}
 use Rattle.pool_model.specs.Table.{TableState, IsTable, found, counted_homes}
+use Rattle.pool_stats.specs.Totals.{totals_in}
 use Rattle.slot_table.specs.Slots.{AreRisingSlots}
 use Rattle.table_state.specs.Pools.{Held}
 use Rattle.table_state.specs.SealForms.{fewest_sectors, most_sectors, last_group}
@@ -36,4 +37,5 @@ pub record IsSound (held : Held) : Type 0 where
   pub sorted : IsTable held.table
   pub keys_are : held.keys ≡ length (counted_homes held.table)
   pub keys_few : held.keys < 2 ^ 62
+  pub totals_are : held.totals ≡ totals_in (counted_homes held.table)
   pub counts : (key : Key) (home : Home) → found held.table key ≡ Some home → home.count ≤ length held.slots

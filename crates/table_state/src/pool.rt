@@ -1,7 +1,15 @@
+ghost use Rattle.std.specs.Prelude.{◌≡◌};
+ghost use Rattle.disk_model.specs.Images.{Image};
+ghost use Rattle.pool_model.specs.Pool.{Pool as PoolModel};
+ghost use Rattle.pool_model.specs.Stats.{stats_of};
+ghost use Rattle.pool_model.specs.Table.{TableState};
+ghost use Rattle.table_state.specs.Pools.{IsHeld};
+
 use crate::table::DedupTable;
 use grant_book::GrantBook;
 use page_tree::SectorList;
-use pool_model::Mode;
+use pool_model::{Mode, Stats};
+use pool_stats::RunningTotals;
 use slot_table::SlotMap;
 use std::marker::Model;
 
@@ -14,6 +22,8 @@ pub struct Pool {
     pub table: DedupTable,
     /// How many homes the table finds that are counted.
     pub keys: u64,
+    /// The sums over these homes.
+    pub totals: RunningTotals,
     /// The sectors of the image's metadata pages.
     pub pages: SectorList,
     /// Which sectors the ring, a page, a pointer or a waiting home names.
@@ -40,6 +50,7 @@ impl Model for Pool {
       table = pool.table.table;
       logs = pool.table.logs;
       keys = pool.keys;
+      totals = pool.totals;
       pages = pool.pages.items;
       used = pool.book.used;
       pending = pool.book.pending;
@@ -49,4 +60,13 @@ impl Model for Pool {
       group = pool.sealed;
       sectors = pool.sectors;
     } };
+}
+
+impl Pool {
+    /// What `stat` prints, by kept numbers. Takes no memory.
+    pub fn stats(&self) -> Stats
+        ensures { (image : Image) (p : PoolModel) (table : TableState) → IsHeld image self.now p table → result ≡ stats_of p }
+    {
+        self.totals.stats(self.slots.len(), self.slots.plain())
+    }
 }
