@@ -55,6 +55,7 @@ is_held tag image seal held counts made_of =
       pages_are = refl;
       keys_are = (made.whole image).homes;
       keys_few = made.few;
+      totals_are = refl;
       used_are = made.used_are image;
       settled = refl;
       modes_are = refl;

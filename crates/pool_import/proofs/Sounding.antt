@@ -60,6 +60,7 @@ sound_of tag disk_sectors seal flat held formed slots lengths made =
       settled = refl;
       keys_are = (made.whole []).homes;
       keys_few = made.few;
+      totals_are = refl;
       used_len = ap length (made.used_are []) ∙ length-used_sectors seal.sectors flat.named (pool_in [] seal flat) (table_in seal flat);
       ring = λ sector first. ap (λ used. slice_index_or used sector true) (made.used_are [])
           ∙ ring_is_used seal.sectors flat.named (pool_in [] seal flat) (table_in seal flat) sector first;

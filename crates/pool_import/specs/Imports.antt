@@ -3,6 +3,8 @@ use Rattle.std.specs.Prelude.{◌≡◌, ◌<◌, ◌^◌, ℕ, Bool, true, fals
 use Rattle.disk_model.specs.Images.{Image}
 use Rattle.uber_ring.specs.declared.seal.Seal.{Seal}
 use Rattle.pool_model.specs.Space.{used_sectors}
+use Rattle.pool_model.specs.Table.{counted_homes}
+use Rattle.pool_stats.specs.Totals.{totals_in}
 use Rattle.table_state.specs.SealForms.{is_formed, modes_in, quota_in}
 use Rattle.table_state.specs.Flat.{Flat, IsRead, HoldTogether, table_in, pool_in, logs_in}
 use Rattle.table_state.specs.Pools.{Held}
@@ -22,6 +24,7 @@ held_of tag seal flat used = record {
   table = table_in seal flat;
   logs = logs_in flat;
   keys = seal.homes;
+  totals = totals_in (counted_homes (table_in seal flat));
   pages = flat.named;
   used = used;
   pending = replicate seal.sectors false;

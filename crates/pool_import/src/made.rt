@@ -1,6 +1,8 @@
 ghost use Rattle.std.specs.Prelude.{◌≡◌, ◌≤◌, true, length, map, IfOk, IfSome, IfNone};
 ghost use Rattle.std.specs.List.{AllByRecursion};
 ghost use Rattle.disk_model.specs.Images.{Image};
+ghost use Rattle.pool_model.specs.Table.{counted_homes};
+ghost use Rattle.pool_stats.specs.Totals.{totals_in};
 ghost use Rattle.slot_table.specs.Slots.{AreRisingSlots};
 ghost use Rattle.table_state.specs.SealForms.{modes_in, quota_in};
 ghost use Rattle.table_state.specs.Flat.{HoldTogether, table_in, logs_in};
@@ -15,7 +17,9 @@ use crate::tables::table_of;
 use crate::whole::hold_together;
 use disk_model::Disk;
 use grant_book::{GrantBook, SectorSet};
+use plain_table::counted;
 use pool_model::Mode;
+use pool_stats::RunningTotals;
 use slot_table::SlotMap;
 use std::alloc::{AllocError, Global};
 use table_state::{DedupTable, Pool, mode_of};
@@ -62,10 +66,12 @@ fn assembled(
     ensures { IfOk result (λ pool. pool ≡ held_of tag seal.now flat used) }
 {
     let slots = SlotMap::of_slots(alloc, flat.slots.as_slice())?;
+    let totals = totals_of(alloc, &table)?;
     Ok(Pool {
         slots,
         table,
         keys: seal.homes,
+        totals,
         pages: flat.named,
         book: GrantBook::of_used(used),
         modes: modes_of(seal),
@@ -74,6 +80,14 @@ fn assembled(
         sealed: seal.group,
         sectors: seal.sectors,
     })
+}
+
+/// The sums over the homes that the table counts. The error is want of memory.
+fn totals_of(alloc: Global, table: &DedupTable) -> Result<RunningTotals, AllocError>
+    ensures { IfOk result (λ totals. totals ≡ totals_in (counted_homes table.now.table)) }
+{
+    let homes = counted(table.homes(alloc)?);
+    Ok(RunningTotals::over(homes.as_slice()))
 }
 
 /// The modes of the lanes.

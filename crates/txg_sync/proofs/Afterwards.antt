@@ -18,6 +18,7 @@ use Rattle.pool_model.specs.Mirrors.{Stored}
 use Rattle.pool_model.specs.Space.{is_used, used_sectors}
 use Rattle.pool_model.specs.Table.{TableState, found, waiting_in, IsTable, counted_homes}
 use Rattle.slot_table.specs.Slots.{stands_before}
+use Rattle.pool_stats.specs.Totals.{totals_in}
 use Rattle.table_state.specs.Flat.{Flat, StandsFor, IsClear, IsWithin, IsChangeWithin, pointer_of, logs_in}
 use Rattle.table_state.specs.Holding.{Holds, WaitingStand}
 use Rattle.table_state.specs.Over.{StandsOver}
@@ -107,6 +108,7 @@ made_held c next sound pool table tag same =
       logs_are = logs;
       keys_are = sound.keys_are ∙ ap (λ (t : TableState). length (counted_homes t)) tables;
       keys_few = sound.keys_few;
+      totals_are = sound.totals_are ∙ ap (λ (t : TableState). totals_in (counted_homes t)) tables;
       settled = sound.settled;
       pages_are = pages;
       used_are = used;
@@ -167,6 +169,7 @@ module _ (held : Held) (closed : PlainClosed) (sound : IsSound held) (range : Is
     settled = plan.is_next.pending_are ∙ ap (λ n. replicate n false) (sym plan.is_next.sectors_are);
     keys_are = plan.is_next.keys_are;
     keys_few = plan.keys_few;
+    totals_are = plan.is_next.totals_are;
     used_len =
         ap length plan.is_next.used_are ∙ length-map (range_with_len 0 held.sectors) (is_used (places_in parts) bare next.table)
         ∙ length-range_with_len 0 held.sectors ∙ sym plan.is_next.sectors_are;

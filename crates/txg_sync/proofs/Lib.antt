@@ -17,3 +17,4 @@ pub mod PlacedParts
 pub mod Planned
 pub mod Created
 pub mod TableSteps
+pub mod Totals

@@ -19,6 +19,7 @@ use Rattle.pool_model.proofs.Lists.{all_from}
 use Rattle.table_state.proofs.SlotLaws.{is_slot-from}
 use Rattle.table_state.proofs.SlotsAfter.{within_after, within_later}
 use Rattle.table_state.proofs.Syncing.{sync_within, sync_lengths}
+use Rattle.pool_stats.specs.Totals.{totals_in}
 use Rattle.txg_sync.specs.Placing.{ArePlaced}
 use Rattle.table_state.specs.Closing.{PlainClosed, IsInRange, kept_of}
 use Rattle.txg_sync.specs.Planning.{IsMadeOf, IsPlan}
@@ -61,6 +62,7 @@ is_plan held closed slots kept parts pages seal next slots_are kept_is placed pa
     table_is = ap (λ (k : LoggedTable). k.table) (made.kept_is ∙ kept_is);
     logs_are = ap (λ (k : LoggedTable). k.logs) (made.kept_is ∙ kept_is);
     keys_are = made.keys_are ∙ ap (λ (k : LoggedTable). length (counted_homes k.table)) (sym made.kept_is);
+    totals_are = made.totals_are ∙ ap (λ (k : LoggedTable). totals_in (counted_homes k.table)) (sym made.kept_is);
     pages_are = made.pages_are ∙ pages_are;
     pending_are = made.pending_are;
     used_are =

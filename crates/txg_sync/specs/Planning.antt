@@ -7,6 +7,7 @@ use Rattle.page_tree.specs.Pointers.{null_pointer}
 use Rattle.page_tree.specs.declared.pointer.PagePtr.{PagePtr}
 use Rattle.pool_model.specs.Space.{used_sectors}
 use Rattle.pool_model.specs.Table.{counted_homes, sync_table}
+use Rattle.pool_stats.specs.Totals.{totals_in}
 use Rattle.uber_ring.specs.declared.seal.Seal.{Seal}
 use Rattle.slot_table.specs.declared.slot.SlotRecord.{SlotRecord}
 use Rattle.txg_sync.specs.Placing.{ArePlaced, AreUsed}
@@ -23,6 +24,7 @@ pub record IsNext (held : Held) (closed : PlainClosed) (pages : List ℕ) (next 
   pub table_is : next.table ≡ sync_table closed.log held.table
   pub logs_are : next.logs ≡ logs_after closed.log held.table held.logs
   pub keys_are : next.keys ≡ length (counted_homes next.table)
+  pub totals_are : next.totals ≡ totals_in (counted_homes next.table)
   pub pages_are : next.pages ≡ pages
   pub used_are : next.used
       ≡ used_sectors held.sectors pages (pool_after [] [] next.slots next.table closed.modes closed.quota (held.group + 1)) next.table
@@ -40,6 +42,7 @@ pub record IsMadeOf (held : Held) (closed : PlainClosed) (slots : List SlotRecor
   pub kept_is : kept_of next ≡ kept
   pub keys_are : next.keys ≡ length (counted_homes kept.table)
   pub keys_few : next.keys < 2 ^ 62
+  pub totals_are : next.totals ≡ totals_in (counted_homes kept.table)
   pub pages_are : next.pages ≡ pages
   pub used_are : AreUsed held.sectors pages slots kept.table next.used
   pub pending_are : next.pending ≡ replicate held.sectors false

@@ -19,6 +19,7 @@ use disk_model::{Disk, crash_laws};
 use grant_book::{GrantBook, SectorSet};
 use page_tree::SectorList;
 use pool_model::{Mode, SyncFault};
+use pool_stats::RunningTotals;
 use slot_table::SlotMap;
 use std::alloc::{AllocError, Global};
 use table_state::{DedupTable, Pool};
@@ -42,6 +43,7 @@ fn new_pool(alloc: Global, tag: u8, sectors: u64) -> Result<Pool, AllocError>
         slots: SlotMap::new(alloc),
         table: DedupTable::new(alloc),
         keys: 0,
+        totals: RunningTotals::new(),
         pages: SectorList::new(alloc),
         book: new_book(alloc, sectors)?,
         modes: [Mode::On; 16],

@@ -88,7 +88,13 @@ pub fn plan_group<D: Disk>(
         (LacksRoom pool.old.used (closed_of closed.now).contents (records_after pool.old (closed_of closed.now)))) }
 {
     set_slots(&mut pool.slots, closed.slots.as_slice())?;
-    sync_table(alloc, &mut pool.table, disk, closed.changes.as_slice())?;
+    sync_table(
+        alloc,
+        &mut pool.table,
+        &mut pool.totals,
+        disk,
+        closed.changes.as_slice(),
+    )?;
     let listed = pool.slots.slots(alloc)?;
     let slots = listed.as_slice();
     slots_fit(slots);

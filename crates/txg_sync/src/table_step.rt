@@ -5,36 +5,71 @@ ghost use Rattle.std.specs.Prelude.{◌≡◌, ◌<◌, [], List, fold, OnOk};
 ghost use Rattle.ddt_entry.specs.declared.entry.Entry.{Entry as Stored};
 ghost use Rattle.log_flush.specs.Flushing.{IsSecondStep};
 ghost use Rattle.log_pair.specs.Paired.{with_change, as_table};
-ghost use Rattle.pool_model.specs.Table.{is_due};
+ghost use Rattle.pool_model.specs.Table.{home_in, is_due};
 ghost use Rattle.pool_model.specs.Replaying.{sync_logged};
 ghost use Rattle.table_state.specs.Kept.{kept_in};
-ghost use Rattle.txg_sync.specs.TableSteps.{third_step};
+ghost use Rattle.pool_stats.specs.Totals.{count_in};
+ghost use Rattle.txg_sync.specs.TableSteps.{counted_on, third_step};
 
 use ddt_class::Classes;
-use ddt_entry::Change;
+use ddt_entry::{Change, Home, key_of};
 use disk_model::Disk;
 use log_flush::flush;
 use log_pair::LogPair;
 use page_tree::NoPages;
 use plain_table::{SWAP_AGE, SWAP_KEYS};
+use pool_stats::RunningTotals;
 use std::alloc::{AllocError, Global};
 use table_state::DedupTable;
 
-/// The table after a group with these changes, in the place of the one before. No sector is read, since the table is
-/// held in memory. The error is want of memory; the table is then given up.
+/// The table after a group with these changes, in the place of the one before, and the sums over its counted homes. No
+/// sector is read, since the table is held in memory. The error is want of memory; both are then given up.
 pub fn sync_table<D: Disk>(
     alloc: Global,
     table: &mut DedupTable,
+    totals: &mut RunningTotals,
     disk: &D,
     changes: &[Change],
 ) -> Result<(), AllocError>
-    ensures { OnOk result (table.new ≡ sync_logged changes.now table.old) }
+    ensures kept { OnOk result (table.new ≡ sync_logged changes.now table.old) }
+    ensures totals { OnOk result (totals.new ≡ fold (counted_on table.old.table) totals.old changes.now) }
 {
+    count_changes(table, totals, changes);
     let limit = table.flush_limit();
     append_all(&mut table.logs, disk, changes)?;
     flush_some(alloc, &mut table.classes, &mut table.logs, disk, limit)?;
     table.age = swap_due(&mut table.logs, table.age);
     Ok(())
+}
+
+/// How many pointers are counted at a home, where there is one.
+fn count_at(home: Option<Home>) -> u64
+    ensures { result ≡ count_in home }
+{
+    match home {
+        Some(home) => home.count,
+        None => 0,
+    }
+}
+
+/// How many pointers a change counts.
+fn count_by(change: &Change) -> u64
+    ensures { result ≡ count_in (home_in change.now) }
+{
+    match change {
+        Change::Entry(entry) => entry.home.count,
+        Change::Gone(_) => 0,
+    }
+}
+
+/// The sums over the counted homes where these changes come to the table.
+fn count_changes(table: &DedupTable, totals: &mut RunningTotals, changes: &[Change])
+    ensures { totals.new ≡ fold (counted_on table.now.table) totals.old changes.now }
+{
+    'changes: for change in changes {
+        let key = key_of(change);
+        totals.change(key.len, count_at(table.found(&key)), count_by(change));
+    }
 }
 
 /// First step: each change goes to the active log, and its key leaves the flushing one. The error is want of memory.

@@ -1,11 +1,11 @@
 -- The pool that is left is the one after the group, and the parts of the plan are its own.
-use Rattle.std.proofs.Common.{◌≡◌, ◌∙◌, ◌+◌, ℕ, Bool, false, List, [], length, map, replicate, refl, sym, ap, subst, arith}
+use Rattle.std.proofs.Common.{◌≡◌, ◌∙◌, ◌+◌, ℕ, Bool, false, List, [], length, map, fold, replicate, refl, sym, ap, subst, arith}
 use Rattle.std.specs.Prelude.{nat_lt}
 use Rattle.std.specs.List.{AllByRecursion}
 use Rattle.ddt_entry.specs.Spelling.{IsKeyLength}
 use Rattle.ddt_entry.specs.declared.entry.Entry.{Entry}
 use Rattle.pool_model.specs.Space.{used_sectors}
-use Rattle.pool_model.specs.Replaying.{sync_logged}
+use Rattle.pool_model.specs.Replaying.{LoggedTable, sync_logged}
 use Rattle.pool_model.specs.Table.{entries_found, counted_homes}
 use Rattle.pool_model.specs.Mirrors.{stored_of}
 use Rattle.pool_model.proofs.Lists.{length-filter-le}
@@ -16,16 +16,19 @@ use Rattle.table_state.specs.Spelling.{FitsSlot}
 use Rattle.table_state.proofs.UsedLaws.{length-used_sectors}
 use Rattle.slot_table.specs.declared.slot.SlotRecord.{SlotRecord}
 use Rattle.uber_ring.specs.declared.seal.Seal.{Seal}
+use Rattle.pool_stats.specs.Totals.{totals_in}
 use Rattle.txg_sync.specs.Placing.{AreUsed, ArePlaced}
+use Rattle.txg_sync.specs.TableSteps.{counted_on}
 use Rattle.txg_sync.proofs.FewHomes.{few_homes}
 use Rattle.txg_sync.proofs.Planned.{lengths_after, table_within_after, slot_lengths_after, is_plan}
 use Rattle.txg_sync.proofs.PlannedLimits.{found_small}
+use Rattle.txg_sync.proofs.Totals.{totals_synced}
 use Rattle.txg_sync.proofs.planning.plan_group.Goals as goal
 
 pub chains_of-requires-clause-lengths : goal.chains_of-requires-clause-lengths
 chains_of-requires-clause-lengths g c =
     lengths_after c.args.pool.now (closed_of c.args.closed.now) c.requires.sound c.requires.range c.sync_table.new.table
-    (c.in_ok-sync_table.ensures ∙ ap (λ l. sync_logged l c.pool.inside.table) c.as_slice-2.ensures
+    (c.in_ok-sync_table.ensures.kept ∙ ap (λ l. sync_logged l c.pool.inside.table) c.as_slice-2.ensures
     ∙ ap (λ (h : Held). sync_logged c.args.closed.now.changes.items (kept_of h)) c.pool.view_is)
 
 pub seal_of-seal-requires-clause-few : goal.seal_of-seal-requires-clause-few
@@ -37,14 +40,14 @@ seal_of-seal-requires-clause-few g c =
     c.in-Some.parts.items) (ap (map stored_of) c.as_slice-contents.ensures) placed) in
     few_homes c.args.pool.now c.requires.sound (closed_of c.args.closed.now).contents c.as_slice-slots.result.now c.sync_table.new.table
     c.in-Some.parts.items here (closed_of c.args.closed.now).log
-    (c.in_ok-sync_table.ensures ∙ ap (λ l. sync_logged l c.pool.inside.table) c.as_slice-2.ensures
+    (c.in_ok-sync_table.ensures.kept ∙ ap (λ l. sync_logged l c.pool.inside.table) c.as_slice-2.ensures
     ∙ ap (λ (h : Held). sync_logged c.args.closed.now.changes.items (kept_of h)) c.pool.view_is)
 
 pub seal_of-seal-requires-clause-counts : goal.seal_of-seal-requires-clause-counts
 seal_of-seal-requires-clause-counts g c =
     found_small c.args.pool.now.sectors (c.args.pool.now.group + 1) c.sync_table.new.table.table
     (table_within_after c.args.pool.now (closed_of c.args.closed.now) c.requires.sound c.requires.range c.sync_table.new.table
-    (c.in_ok-sync_table.ensures ∙ ap (λ l. sync_logged l c.pool.inside.table) c.as_slice-2.ensures
+    (c.in_ok-sync_table.ensures.kept ∙ ap (λ l. sync_logged l c.pool.inside.table) c.as_slice-2.ensures
     ∙ ap (λ (h : Held). sync_logged c.args.closed.now.changes.items (kept_of h)) c.pool.view_is))
 
 pub used_after-requires-clause-slots : goal.used_after-requires-clause-slots
@@ -58,7 +61,7 @@ used_after-requires-clause-slots g c =
 pub returns-clause-planned : goal.returns-clause-planned
 returns-clause-planned g c =
     let kept : c.sync_table.new.table ≡ sync_logged c.args.closed.now.changes.items (kept_of c.args.pool.now) =
-    c.in_ok-sync_table.ensures ∙ ap (λ l. sync_logged l c.pool.inside.table) c.as_slice-2.ensures
+    c.in_ok-sync_table.ensures.kept ∙ ap (λ l. sync_logged l c.pool.inside.table) c.as_slice-2.ensures
     ∙ ap (λ (h : Held). sync_logged c.args.closed.now.changes.items (kept_of h)) c.pool.view_is in
     let slots : c.set_slots.new.slots ≡ slots_after c.args.closed.now.slots.items c.args.pool.now.slots =
     c.in_ok-set_slots.ensures ∙ ap (λ l. slots_after l c.pool.inside.slots) c.as_slice.ensures
@@ -75,6 +78,13 @@ returns-clause-planned g c =
     c.in_ok-pages.ensures ∙ ap places_in c.as_slice-3.ensures.value in
     let keys : c.seal_of-seal.result.homes ≡ length (counted_homes c.sync_table.new.table.table) =
     ap (λ (s : Seal). s.homes) (c.seal_of-seal.ensures.fields []) in
+    let totals : c.sync_table.new.totals ≡ totals_in (counted_homes c.sync_table.new.table.table) =
+    c.in_ok-sync_table.ensures.totals
+    ∙ ap (λ l. fold (counted_on c.pool.inside.table.table) c.pool.inside.totals l) c.as_slice-2.ensures
+    ∙ ap (λ (h : Held). fold (counted_on h.table) h.totals c.args.closed.now.changes.items) c.pool.view_is
+    ∙ ap (λ t. fold (counted_on c.args.pool.now.table) t c.args.closed.now.changes.items) c.requires.sound.totals_are
+    ∙ totals_synced c.args.closed.now.changes.items c.args.pool.now.table c.requires.sound.sorted c.requires.range.rising
+    ∙ ap (λ (k : LoggedTable). totals_in (counted_homes k.table)) (sym kept) in
     let few = few_homes c.args.pool.now c.requires.sound contents c.set_slots.new.slots c.sync_table.new.table c.in-Some.parts.items placed
     c.args.closed.now.changes.items kept in
     let used : AreUsed c.args.pool.now.sectors c.in_ok-pages.pages.items c.set_slots.new.slots c.sync_table.new.table.table
@@ -113,6 +123,7 @@ returns-clause-planned g c =
       keys_are = keys;
       keys_few = omega
           (arith, keys, few, length-filter-le (λ (e : Entry). nat_lt 0 e.home.count) (entries_found c.sync_table.new.table.table));
+      totals_are = totals;
       pages_are = refl;
       used_are = used;
       pending_are = pending;

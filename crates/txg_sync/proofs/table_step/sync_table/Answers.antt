@@ -7,8 +7,8 @@ use Rattle.table_state.specs.Kept.{kept_in}
 use Rattle.txg_sync.proofs.TableSteps.{stepped}
 use Rattle.txg_sync.proofs.table_step.sync_table.Goals as goal
 
-pub returns : goal.returns
-returns g c =
+pub returns-clause-kept : goal.returns-clause-kept
+returns-clause-kept g c =
     let before : LoggedTable = kept_in c.table.inside.classes c.table.inside.logs c.table.inside.age in
     c.swap_due-table-inside.ensures c.flush_some.new.classes
     ∙ stepped c.args.changes.now before.table before.logs c.append_all.new.logs c.flush_some.new.logs c.flush_some.new.classes
