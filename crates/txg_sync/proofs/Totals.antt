@@ -1,6 +1,8 @@
 -- The sums over the counted homes, where each change of a group is counted by what the table before the group has of its key, are those
 -- after the group's sync.
-use Rattle.std.proofs.Common.{◌≡◌, true, cond, List, [], ◌∷◌, fold, refl, sym, ap, ◌∙◌}
+use Rattle.std.proofs.Common.{◌≡◌, ℕ, ◌+◌, ◌<◌, true, cond, List, [], ◌∷◌, length, take, get_or, fold, refl, sym, ap, ◌∙◌}
+use Rattle.std.proofs.lemmas.List.{take_more}
+use Rattle.std.proofs.lemmas.List.Sums.{fold_push}
 use Rattle.std.specs.List.{AllByRecursion}
 use Rattle.std.specs.Ordering.{is_lt}
 use Rattle.ddt_entry.specs.Keys.{key_cmp, key_eq}
@@ -14,6 +16,7 @@ use Rattle.pool_model.proofs.TablePuts.{apart_by_order}
 use Rattle.pool_model.proofs.Counted.{counted-logged, counted-synced}
 use Rattle.pool_stats.specs.Totals.{count_in, totals_in, totals_moved}
 use Rattle.pool_stats.proofs.HomeSums.{totals_logged}
+use Rattle.pool_stats.specs.declared.running.RunningTotals.{RunningTotals}
 use Rattle.txg_sync.specs.TableSteps.{counted_on}
 
 -- a table so far finds of a change's key what the one before the group finds
@@ -46,3 +49,12 @@ pub totals_synced : (changes : List Change) (table : TableState) → IsTable tab
 totals_synced changes table is rising =
     totals_so_far changes table table is rising (all_each (IsUntouched table table) (λ c. refl) changes)
     ∙ ap totals_in (counted-logged changes table is ∙ sym (counted-synced changes table is))
+
+-- one change more of a list
+pub counted_more : (table : TableState) (start totals next : RunningTotals) (changes : List Change) (i : ℕ) (default : Change)
+    → i < length changes → totals ≡ fold (counted_on table) start (take i changes)
+    → next ≡ counted_on table totals (get_or changes i default) → next ≡ fold (counted_on table) start (take (i + 1) changes)
+counted_more table start totals next changes i default within so_far is =
+    is ∙ ap (λ t. counted_on table t (get_or changes i default)) so_far
+    ∙ sym (fold_push (counted_on table) start (take i changes) (get_or changes i default))
+    ∙ ap (fold (counted_on table) start) (sym (take_more changes i default within))

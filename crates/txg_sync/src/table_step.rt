@@ -62,13 +62,20 @@ fn count_by(change: &Change) -> u64
     }
 }
 
+/// The sums over the counted homes where this change comes to the table.
+fn count_change(table: &DedupTable, totals: &mut RunningTotals, change: &Change)
+    ensures { totals.new ≡ counted_on table.now.table totals.old change.now }
+{
+    let key = key_of(change);
+    totals.change(key.len, count_at(table.found(&key)), count_by(change));
+}
+
 /// The sums over the counted homes where these changes come to the table.
 fn count_changes(table: &DedupTable, totals: &mut RunningTotals, changes: &[Change])
     ensures { totals.new ≡ fold (counted_on table.now.table) totals.old changes.now }
 {
     'changes: for change in changes {
-        let key = key_of(change);
-        totals.change(key.len, count_at(table.found(&key)), count_by(change));
+        count_change(table, totals, change);
     }
 }
 
