@@ -3,7 +3,6 @@ use crate::groups::{entry, group_of, slot};
 use crate::silent_disk::{SilentDisk, small_disk};
 use crate::sound_pool::{SoundPool, created};
 use ddt_entry::{Entry, Pointer, SlotKind};
-use held_stats::stats_of_pool;
 use pool_model::{Bucket, Closed, Stats};
 use slot_table::SlotRecord;
 use std::alloc::{AllocError, Global};
@@ -11,8 +10,8 @@ use std::process::Abort;
 use std::test::Fail;
 
 /// The statistics of a pool whose numbers are in their ranges.
-fn counted(alloc: Global, sound: &SoundPool) -> Result<Stats, AllocError> {
-    stats_of_pool(alloc, &sound.pool)
+fn counted(sound: &SoundPool) -> Stats {
+    sound.pool.stats()
 }
 
 /// Keys, unique and duplicate ones; tracked, loose and plain pointers; bytes once, and once for each pointer.
@@ -72,14 +71,14 @@ fn with_no_pointer(rt: &impl Abort, alloc: Global) -> Result<(SilentDisk, SoundP
 
 /// Sees that nothing is counted in a pool.
 fn assert_counts_nothing(rt: &impl Abort, alloc: Global, sound: &SoundPool) -> Result<(), Fail> {
-    let stats = counted(alloc, sound)?;
+    let stats = counted(sound);
     assert_same(rt, "the sums of an empty pool", numbers(&stats), [0; 8]);
     Ok(())
 }
 
 /// Sees what is counted in a pool behind the five slots.
 fn assert_counts_five(rt: &impl Abort, alloc: Global, sound: &SoundPool) -> Result<(), Fail> {
-    let stats = counted(alloc, sound)?;
+    let stats = counted(sound);
     let all = [2, 1, 1, 3, 1, 1, 10, 15];
     assert_same(rt, "the sums", numbers(&stats), all);
     let [first, second] = [stats.buckets[0], stats.buckets[1]];

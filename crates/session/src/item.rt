@@ -64,7 +64,7 @@ pub(crate) fn do_item<D: Disk, W: Sink, K: KeyOf>(
 {
     match item {
         Item::Lanes(group) => do_group(alloc, pool, disk, out, keyer, item, group, session),
-        Item::Stat => do_stat(alloc, pool, disk, out, keyer, item, session),
+        Item::Stat => do_stat(pool, disk, out, keyer, item, session),
         Item::Import => do_import(alloc, pool, disk, out, keyer, item, session),
         Item::Create | Item::Prune { .. } | Item::Quota(_) | Item::SetMode { .. } => unreachable!(),
     }

@@ -8,7 +8,6 @@ ghost use Rattle.pool_model.specs.Table.{TableState};
 ghost use Rattle.pool_model.specs.Stats.{stats_of};
 ghost use Rattle.pool_model.specs.Text.{stat_text};
 ghost use Rattle.table_state.specs.Pools.{IsHeld};
-ghost use Rattle.table_state.specs.Sound.{IsSound};
 ghost use Rattle.report.specs.ItemText.{text_of};
 ghost use Rattle.session.specs.Devices.{between};
 ghost use Rattle.session.specs.Entries.{IsLawfulSize};
@@ -25,7 +24,6 @@ use crate::status::Status;
 use crate::words::{Look, looking_words};
 use ddt_entry::KeyOf;
 use disk_model::Disk;
-use held_stats::stats_of_pool;
 use io_model::Sink;
 use pool_model::{Item, Stats};
 use report::{NO_STATS, write_item};
@@ -107,22 +105,19 @@ fn tell_pool<D: Disk, W: Sink, K: KeyOf>(
     ensures sink { W.faults out.old ≤ W.faults out.new }
 {
     match find_pool(alloc, disk, keyer) {
-        Ok(pool) => write_stats(alloc, &pool, out),
+        Ok(pool) => write_stats(&pool, out),
         Err(status) => status,
     }
 }
 
 /// Writes the statistics of a pool.
-fn write_stats<W: Sink>(alloc: Global, pool: &Pool, out: &mut W) -> Status
-    requires sound { IsSound pool.now }
+fn write_stats<W: Sink>(pool: &Pool, out: &mut W) -> Status
     ensures told { (image : Image) (p : PoolModel) (table : TableState) → IsHeld image pool.now p table
         → WritesSo result (stat_text p.group p.quota (stats_of p)) (W.written out.old) (W.written out.new) }
     ensures cause { WriteStatsCause result (W.faults out.old) (W.faults out.new) }
     ensures sink { W.faults out.old ≤ W.faults out.new }
 {
-    let Ok(stats) = stats_of_pool(alloc, pool) else {
-        return Status::OutOfMemory;
-    };
+    let stats = pool.stats();
     write_text(out, &Item::Stat, &stats, pool.sealed, pool.limit)
 }
 

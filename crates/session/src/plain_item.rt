@@ -17,7 +17,6 @@ use crate::group_item::tell;
 use crate::status::{Status, told};
 use ddt_entry::KeyOf;
 use disk_model::{Disk, crash_laws};
-use held_stats::stats_of_pool;
 use io_model::Sink;
 use pool_import::import;
 use pool_model::{Item, Session};
@@ -99,7 +98,6 @@ pub(crate) fn do_import<D: Disk, W: Sink, K: KeyOf>(
 
 /// Tells the statistics of the pool in memory. It calls no device but the output.
 pub(crate) fn do_stat<D: Disk, W: Sink, K: KeyOf>(
-    alloc: Global,
     pool: &Pool,
     disk: &D,
     out: &mut W,
@@ -118,8 +116,6 @@ pub(crate) fn do_stat<D: Disk, W: Sink, K: KeyOf>(
     ensures sink_cause { IsErrOf result Status.SinkFault → Rose (W.faults out.old) (W.faults out.new) }
 {
     crash_laws(disk);
-    let Ok(stats) = stats_of_pool(alloc, pool) else {
-        return Err(Status::OutOfMemory);
-    };
+    let stats = pool.stats();
     tell(write_item(out, item, None, &stats, pool.sealed, pool.limit))
 }
