@@ -114,9 +114,12 @@ abbrev pub group_line : (moment : Option ℕ) → Option Line
 group_line None = None
 group_line (Some moment) = Some (begins moment)
 
-abbrev pub quota_line : (limit : Option ℕ) → Option Line
-quota_line None = None
-quota_line (Some limit) = Some (stands (of_group (quota (Some limit))))
+abbrev pub limit_line : (limit : Option ℕ) → Option Line
+limit_line None = None
+limit_line (Some limit) = Some (stands (of_group (quota (Some limit))))
+
+abbrev pub quota_line : (word : List ℕ) → Option Line
+quota_line word = if bytes_eq word (codes "none") then Some (stands (of_group (quota None))) else limit_line (number_in word)
 
 abbrev pub mode_line : (lane : Option ℕ) → Option Mode → Option Line
 mode_line (Some lane) (Some mode) = Some (stands (of_group (set_mode lane mode)))
@@ -148,8 +151,7 @@ item_line (verb ∷ []) =
     else None
 item_line (verb ∷ word ∷ []) =
     if bytes_eq verb (codes "group") then group_line (number_in word)
-    else if bytes_eq verb (codes "quota") then
-    if bytes_eq word (codes "none") then Some (stands (of_group (quota None))) else quota_line (number_in word)
+    else if bytes_eq verb (codes "quota") then quota_line word
     else None
 item_line (verb ∷ lane ∷ word ∷ []) = if bytes_eq verb (codes "mode") then mode_line (number_in lane) (mode_in word) else None
 item_line (verb ∷ moment ∷ rule ∷ number ∷ []) =
@@ -193,11 +195,18 @@ abbrev pub command_runs : (lane : ℕ) → Deed → Bool
 command_runs lane (writes block) = lane == 0
 command_runs lane deed = false
 
+-- of items that are one line, those that are run
+abbrev pub part_runs : Part → Bool
+part_runs stat = true
+part_runs «import» = true
+part_runs (of_group (prune moment rule)) = prunes_run
+part_runs (of_group (quota limit)) = settings_run
+part_runs (of_group (set_mode lane mode)) = settings_run
+part_runs part = false
+
 abbrev pub runs_today : Line → Bool
+runs_today (stands part) = part_runs part
 runs_today (does lane slot deed) = command_runs lane deed
-runs_today (stands (of_group (prune moment rule))) = prunes_run
-runs_today (stands (of_group (quota limit))) = settings_run
-runs_today (stands (of_group (set_mode lane mode))) = settings_run
 runs_today line = true
 
 -- ---- Ranges
@@ -285,14 +294,15 @@ with_line progress ends = record progress { parts = with_group progress.parts pr
 
 -- ---- Lines
 
--- form before range, and range before number
-abbrev pub judged : Progress → Option Line → Result Progress BadKind
-judged progress None = Err Form
-judged progress (Some line) =
-    if not (runs_today line) then Err Form
-    else if not (line_fits line) then Err Range
-    else if is_too_many progress line then Err Many
-    else Ok (with_line progress line)
+-- form before range
+abbrev pub tested : Option Line → Result Line BadKind
+tested None = Err Form
+tested (Some line) = if not (runs_today line) then Err Form else if not (line_fits line) then Err Range else Ok line
+
+-- and range before number
+abbrev pub judged : Progress → Result Line BadKind → Result Progress BadKind
+judged progress (Err kind) = Err kind
+judged progress (Ok line) = if is_too_many progress line then Err Many else Ok (with_line progress line)
 
 -- what a line says where it stands
 abbrev pub line_here : Option OpenGroup → (words : List (List ℕ)) → Option Line
@@ -310,7 +320,7 @@ is_skipped (first ∷ rest) = first == 35
 -- what is read with this line, or what is wrong with it
 abbrev pub read_line : Progress → (line : List ℕ) → Result Progress BadKind
 read_line progress line =
-    if is_skipped line then Ok progress else judged progress (line_here progress.group (slice_split is_space line))
+    if is_skipped line then Ok progress else judged progress (tested (line_here progress.group (slice_split is_space line)))
 
 -- so many lines were read before
 abbrev pub counted : (before : ℕ) → Result Progress BadKind → Result Progress Bad
