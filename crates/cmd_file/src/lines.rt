@@ -1,6 +1,6 @@
 //! Lines by themselves: what they say, and whether their numbers are in their ranges.
 
-ghost use Rattle.std.specs.Prelude.{◌≡◌};
+ghost use Rattle.std.specs.Prelude.{◌≡◌, ◌∷◌, []};
 ghost use Rattle.std.specs.List.{slice_split};
 ghost use Rattle.pool_model.specs.File.{is_space, is_skipped, number_in, block_in, write_deed, group_line, command_line, item_line, step_line, tested};
 ghost use Rattle.cmd_file.specs.Faults.{Gives};
@@ -8,12 +8,13 @@ ghost use Rattle.cmd_file.specs.Progress.{start_of, step_of};
 
 use crate::cuts::{Words, words_of};
 use crate::fault::{FORM, LineFault};
+use crate::settings::{prune_in, quota_in, set_mode_in};
 use crate::words::{is_number, number_to, payload_in};
 use pool_model::{Command, Item, Verb};
 use std::alloc::Global;
 
 /// The last moment, in seconds.
-const LAST_MOMENT: u64 = 1_099_511_627_775;
+pub const LAST_MOMENT: u64 = 1_099_511_627_775;
 
 /// The last slot of a lane.
 const LAST_SLOT: u64 = 65_535;
@@ -57,23 +58,48 @@ fn group_in(moment: &[u8]) -> Result<Start, LineFault>
     }
 }
 
+/// What a line of one word says where no group is open.
+fn one_word(verb: &[u8]) -> Result<Start, LineFault>
+    ensures { Gives start_of result (tested (item_line (verb.now ∷ []))) }
+{
+    if verb == b"stat".as_slice() {
+        return Ok(Start::Item(Item::Stat));
+    }
+    if verb == b"import".as_slice() {
+        return Ok(Start::Item(Item::Import));
+    }
+    Err(FORM)
+}
+
+/// What a line of two words says where no group is open.
+fn two_words(verb: &[u8], word: &[u8]) -> Result<Start, LineFault>
+    ensures { Gives start_of result (tested (item_line (verb.now ∷ word.now ∷ []))) }
+{
+    if verb == b"group".as_slice() {
+        return group_in(word);
+    }
+    if verb == b"quota".as_slice() {
+        return quota_in(word);
+    }
+    Err(FORM)
+}
+
 /// What a line says where no group is open.
 pub fn item_in(line: &[u8]) -> Result<Start, LineFault>
     ensures { Gives start_of result (tested (item_line (slice_split is_space line.now))) }
 {
     match words_of(line) {
-        Words::One(verb) => {
-            if verb == b"stat".as_slice() {
-                return Ok(Start::Item(Item::Stat));
-            }
-            if verb == b"import".as_slice() {
-                return Ok(Start::Item(Item::Import));
+        Words::One(verb) => one_word(verb),
+        Words::Two(verb, word) => two_words(verb, word),
+        Words::Three(verb, lane, word) => {
+            if verb == b"mode".as_slice() {
+                return set_mode_in(lane, word);
             }
             Err(FORM)
         }
-        Words::Two(verb, word) => {
-            if verb == b"group".as_slice() {
-                return group_in(word);
+        Words::Four(verb, moment, rule, number) => {
+            if verb == b"prune".as_slice() {
+                return prune_in(moment, rule, number);
             }
             Err(FORM)
         }
