@@ -70,14 +70,14 @@ fn with_no_pointer(rt: &impl Abort, alloc: Global) -> Result<(SilentDisk, SoundP
 }
 
 /// Sees that nothing is counted in a pool.
-fn assert_counts_nothing(rt: &impl Abort, alloc: Global, sound: &SoundPool) -> Result<(), Fail> {
+fn assert_counts_nothing(rt: &impl Abort, sound: &SoundPool) -> Result<(), Fail> {
     let stats = counted(sound);
     assert_same(rt, "the sums of an empty pool", numbers(&stats), [0; 8]);
     Ok(())
 }
 
 /// Sees what is counted in a pool behind the five slots.
-fn assert_counts_five(rt: &impl Abort, alloc: Global, sound: &SoundPool) -> Result<(), Fail> {
+fn assert_counts_five(rt: &impl Abort, sound: &SoundPool) -> Result<(), Fail> {
     let stats = counted(sound);
     let all = [2, 1, 1, 3, 1, 1, 10, 15];
     assert_same(rt, "the sums", numbers(&stats), all);
@@ -91,11 +91,11 @@ fn assert_counts_five(rt: &impl Abort, alloc: Global, sound: &SoundPool) -> Resu
 fn a_synced_pool_is_counted_by_its_slots_and_its_table(rt: HostRuntime) -> Result<(), Fail> {
     let alloc = rt.alloc();
     let (mut disk, sound) = with_no_pointer(&rt, alloc)?;
-    assert_counts_nothing(&rt, alloc, &sound)?;
+    assert_counts_nothing(&rt, &sound)?;
     let closed = five_slots(alloc)?;
     let Ok(synced) = sound.synced(&rt, alloc, &mut disk, &closed) else {
         return Err("the group isn't synced".into());
     };
     assert_same(&rt, "the group", synced.pool.sealed, 2);
-    assert_counts_five(&rt, alloc, &synced)
+    assert_counts_five(&rt, &synced)
 }
