@@ -1,12 +1,17 @@
 mod Causes
+mod ClosedLanes
+mod EntryModes
 mod Goings
 mod Imported
 mod ItemEnds
 mod ItemsGone
 mod Looked
 mod Made
+mod NotedGroups
 mod Opened
 mod Over
 mod Sealing
 mod Sessions
+mod Settled
+mod Unblocked
 mod Unsealed

@@ -15,6 +15,7 @@
 //! of the image: that is `txg_sync`'s and `pool_import`'s.
 #![tactic(auto)]
 
+mod closing;
 mod finding;
 mod group_item;
 mod item;
