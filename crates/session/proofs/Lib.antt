@@ -6,10 +6,12 @@ mod Imported
 mod ItemEnds
 mod ItemsGone
 mod Looked
+mod Loosened
 mod Made
 mod NotedGroups
 mod Opened
 mod Over
+mod Prunes
 mod Sealing
 mod Sessions
 mod Settled

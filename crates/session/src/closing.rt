@@ -1,4 +1,4 @@
-//! What a group of an item comes to before it is sealed, by its kind: its lanes run, or a setting is set.
+//! What a group of an item comes to before it is sealed, by its kind: its lanes run, a setting is set, or homes go.
 
 ghost use Rattle.std.specs.Prelude.{◌≡◌, ◌≤◌, ◌<◌, ◌+◌, ◌-◌, ◌^◌, ℕ, [], min, slice_set, Some, None, IfOk, OnOk, OnErr, IsErrOf};
 ghost use Rattle.cmd_file.specs.Items.{IsItem};
@@ -19,6 +19,7 @@ ghost use Rattle.session.specs.StageClosing.{ClosesFrom, IsGroup, lacks, lacks_r
 ghost use Rattle.session.specs.StageEntries.{IsOnDisk};
 ghost use Rattle.session.specs.StageGroups.{faults_of};
 
+use crate::pruning::close_prune;
 use ddt_entry::KeyOf;
 use disk_model::{Disk, crash_laws};
 use lane_run::run_group_plain;
@@ -124,6 +125,7 @@ pub(crate) fn close_group<D: Disk, K: KeyOf>(
             let closed = close_settings(alloc, pool, pool.limit, modes)?;
             Ok((closed, 0))
         }
-        Item::Create | Item::Prune { .. } | Item::Stat | Item::Import => unreachable!(),
+        Item::Prune { moment, rule } => close_prune(alloc, pool, disk, *rule, *moment),
+        Item::Create | Item::Stat | Item::Import => unreachable!(),
     }
 }

@@ -23,6 +23,7 @@ mod looking;
 mod making;
 mod opening;
 mod plain_item;
+mod pruning;
 mod running;
 mod status;
 mod words;

@@ -1,16 +1,18 @@
 -- A group is closed as its kind is.
-use Rattle.std.proofs.Common.{◌∙◌, List, [], map, ap, refl, subst, sym}
+use Rattle.std.proofs.Common.{◌∙◌, List, [], map, ap, refl, subst, sym, Some}
 use Rattle.std.specs.Prelude.{slice_set}
 use Rattle.pool_model.specs.declared.commands.Item.TheVariants as items
 use Rattle.pool_model.specs.declared.commands.Mode.{Mode}
 use Rattle.pool_model.specs.declared.notes.LaneNote.{LaneNote}
+use Rattle.pool_model.specs.declared.notes.Outcome.TheVariants.{NoSpace}
 use Rattle.pool_model.specs.Group.{lanes_in_turn}
 use Rattle.pool_model.specs.Mirrors.{task_of}
-use Rattle.pool_model.specs.Plain.{GroupItem, lanes, quota, set_mode, lane_told, told_of}
+use Rattle.pool_model.specs.Plain.{GroupItem, lanes, prune, quota, set_mode, lane_told, told_of}
 use Rattle.table_state.specs.Closing.{PlainClosed, IsInRange, closed_of}
 use Rattle.table_state.specs.Pools.{Held}
 use Rattle.session.specs.StageClosing.{ClosesFrom, unblocked}
 use Rattle.session.proofs.ClosedLanes.{closes_lanes, group_of}
+use Rattle.session.proofs.Prunes.{prune_closed, prune_lacks, prune_ranged}
 use Rattle.session.proofs.Settled.{closes_mode, closes_quota, settings_in_range}
 use Rattle.session.proofs.closing.close_group.Goals as goal
 
@@ -66,3 +68,23 @@ returns-in_ok-closed-in-SetMode-clause-closes g c image s group told over is =
     (closes_mode image c.args.pool.now s over (g.K.KeyOf.keying c.args.keyer.now) (told_of c.args.note.now)
     (ap (λ (notes : List LaneNote). map lane_told notes) c.requires.unnoted) c.in_ok-closed-in-SetMode.ensures.room c.in-SetMode.lane
     c.in-SetMode.mode))
+
+pub returns-in-Prune-clause-in_range : goal.returns-in-Prune-clause-in_range
+returns-in-Prune-clause-in_range g c =
+    prune_ranged c.args.pool.now c.in-Prune.rule c.in-Prune.moment c.requires.on_disk.sound c.close_prune.result c.close_prune.ensures.closed
+
+pub returns-in-Prune-clause-closes : goal.returns-in-Prune-clause-closes
+returns-in-Prune-clause-closes g c image s group told over is =
+    prune_closed c.args.pool.now c.in-Prune.rule c.in-Prune.moment image s over group
+    (group_of c.args.item.now (items.Prune c.in-Prune.moment c.in-Prune.rule) (prune c.in-Prune.moment c.in-Prune.rule) group c.in-Prune.is
+    refl is)
+    (g.K.KeyOf.keying c.args.keyer.now) (told_of c.args.note.now)
+    (ap (λ (notes : List LaneNote). map lane_told notes) c.requires.unnoted) c.close_prune.result c.close_prune.ensures.closed
+    c.close_prune.ensures.taken c.close_prune.ensures.room
+
+pub returns-in-Prune-clause-no_space : goal.returns-in-Prune-clause-no_space
+returns-in-Prune-clause-no_space g c image s group needed left told over is failed =
+    prune_lacks c.args.pool.now c.in-Prune.rule c.in-Prune.moment image s over group
+    (group_of c.args.item.now (items.Prune c.in-Prune.moment c.in-Prune.rule) (prune c.in-Prune.moment c.in-Prune.rule) group c.in-Prune.is
+    refl is)
+    (Some (NoSpace needed left)) (c.close_prune.ensures.no_space needed left failed)
