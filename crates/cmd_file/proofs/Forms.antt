@@ -12,8 +12,8 @@ use Rattle.pool_model.specs.declared.notes.BadKind.{BadKind}
 use Rattle.pool_model.specs.declared.notes.BadKind.TheVariants.{Size, Form, Range, Many}
 use Rattle.pool_model.specs.Pool.{IsContent}
 use Rattle.pool_model.specs.Plain.{Task, lanes, prune, quota, set_mode, Part, create, of_group, stat, «import»}
-use Rattle.pool_model.specs.File.{Bad, Spelt, each, repeated, spelt_content, block_fits, Deed, writes, reads, frees, act_of, rule_fits, quota_fits, Line, begins, stands, does, ends, prunes_run, settings_run, runs_today, line_fits, tested, judged, is_too_many, with_line, OpenGroup, Progress, first_progress, command_line, bare_deed, write_deed, step_line, line_here, number_in, block_in, is_space, is_skipped, read_line, counted, after_line, ended_in, ended, is_line_feed, lines_of, file_limit, file_of}
-use Rattle.cmd_file.specs.Items.{AreItems, IsItem, IsRule, IsWrite, WhereRun}
+use Rattle.pool_model.specs.File.{Bad, Spelt, each, repeated, spelt_content, block_fits, Deed, writes, reads, frees, act_of, rule_fits, quota_fits, Line, begins, stands, does, ends, runs_today, line_fits, tested, judged, is_too_many, with_line, OpenGroup, Progress, first_progress, command_line, bare_deed, write_deed, step_line, line_here, number_in, block_in, is_space, is_skipped, read_line, counted, after_line, ended_in, ended, is_line_feed, lines_of, file_limit, file_of}
+use Rattle.cmd_file.specs.Items.{AreItems, IsItem, IsRule, IsWrite}
 use Rattle.pool_model.proofs.Loops.{all_push}
 
 -- ---- Good lines
@@ -24,10 +24,6 @@ IsGood (begins moment) = moment < 2 ^ 40
 IsGood (stands part) = IsItem part
 IsGood (does lane slot deed) = IsWrite (record { lane = lane; slot = slot; act = act_of deed })
 IsGood ends = ⊤
-
-where_run : (runs : Bool) (Fits : Type 0) → runs ≡ true → Fits → WhereRun runs Fits
-where_run true Fits is fits = fits
-where_run false Fits is fits = cc
 
 good_rule : (rule : PruneRule) → rule_fits rule ≡ true → IsRule rule
 good_rule (Age days) fits = leb-true days 1000000 fits
@@ -42,10 +38,9 @@ good_part create runs fits = cc
 good_part (of_group (lanes moment tasks)) runs fits = cc
 good_part (of_group (prune moment rule)) runs fits =
     let parts = and_parts (nat_lt moment (2 ^ 40)) (rule_fits rule) fits in
-    where_run prunes_run ((moment < 2 ^ 40) × IsRule rule) runs (ltb-true moment (2 ^ 40) parts.0, good_rule rule parts.1)
-good_part (of_group (quota limit)) runs fits =
-    where_run settings_run (IfSome limit (λ bytes. bytes < 2 ^ 64)) runs (good_limit limit fits)
-good_part (of_group (set_mode lane mode)) runs fits = where_run settings_run (lane < 16) runs (ltb-true lane 16 fits)
+    (ltb-true moment (2 ^ 40) parts.0, good_rule rule parts.1)
+good_part (of_group (quota limit)) runs fits = good_limit limit fits
+good_part (of_group (set_mode lane mode)) runs fits = ltb-true lane 16 fits
 good_part stat runs fits = tt
 good_part «import» runs fits = tt
 

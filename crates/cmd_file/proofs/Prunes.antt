@@ -1,11 +1,11 @@
--- A line that is a prune, by its words, where prunes are run.
+-- A line that is a prune, by its words.
 use Rattle.std.proofs.Common.{◌≡◌, ℕ, ◌^◌, ◌&&◌, nat_lt, Bool, true, false, cond, not, Option, Some, None, Result, Ok, Err, refl, ap, ◌∙◌, arith}
 use Rattle.std.proofs.lemmas.Bool.Decides.{nat_tests}
 use Rattle.pool_model.specs.declared.commands.PruneRule.{PruneRule}
 use Rattle.pool_model.specs.declared.notes.BadKind.{BadKind}
 use Rattle.pool_model.specs.declared.notes.BadKind.TheVariants.{Form, Range}
 use Rattle.pool_model.specs.Plain.{prune, of_group}
-use Rattle.pool_model.specs.File.{Line, stands, rule_fits, runs_today, line_fits, tested, prunes_run, prune_line}
+use Rattle.pool_model.specs.File.{Line, stands, rule_fits, runs_today, line_fits, tested, prune_line}
 use Rattle.cmd_file.specs.Words.{up_to, rule_to}
 
 abbrev by_tests : (runs fits : Bool) → Line → Result Line BadKind
@@ -32,24 +32,24 @@ has_fit true rule found e = (refl, cc)
 has_fit false rule found e = cc
 
 -- a moment past the last is out of range
-pub moment_is_bad : (moment : Option ℕ) (rule : Option PruneRule) (number : ℕ) (found : PruneRule) (kind : BadKind) → prunes_run ≡ true
+pub moment_is_bad : (moment : Option ℕ) (rule : Option PruneRule) (number : ℕ) (found : PruneRule) (kind : BadKind)
     → moment ≡ Some number → rule_to rule ≡ Ok found → up_to 1099511627775 moment ≡ Err kind → tested (prune_line moment rule) ≡ Err kind
-moment_is_bad None rule number found kind run is good bad = cc
-moment_is_bad (Some moment) None number found kind run is good bad = cc
-moment_is_bad (Some moment) (Some rule) number found kind run is good bad =
+moment_is_bad None rule number found kind is good bad = cc
+moment_is_bad (Some moment) None number found kind is good bad = cc
+moment_is_bad (Some moment) (Some rule) number found kind is good bad =
     let late : nat_lt moment (2 ^ 40) ≡ false = grind (arith, nat_tests) in
     let same : Range ≡ kind = grind (arith, nat_tests) in
-    large_line (stands (of_group (prune moment rule))) run (ap (λ b. b && rule_fits rule) late) ∙ ap Err same
+    large_line (stands (of_group (prune moment rule))) refl (ap (λ b. b && rule_fits rule) late) ∙ ap Err same
 
 -- a moment and a rule in their ranges are a prune
-pub prune_is : (moment : Option ℕ) (rule : Option PruneRule) (number : ℕ) (found : PruneRule) → prunes_run ≡ true
+pub prune_is : (moment : Option ℕ) (rule : Option PruneRule) (number : ℕ) (found : PruneRule)
     → rule_to rule ≡ Ok found → up_to 1099511627775 moment ≡ Ok number
     → tested (prune_line moment rule) ≡ Ok (stands (of_group (prune number found)))
-prune_is None rule number found run good early = cc
-prune_is (Some moment) None number found run good early = cc
-prune_is (Some moment) (Some rule) number found run good early =
+prune_is None rule number found good early = cc
+prune_is (Some moment) None number found good early = cc
+prune_is (Some moment) (Some rule) number found good early =
     let why = has_fit (rule_fits rule) rule found good in
     let soon : nat_lt moment (2 ^ 40) ≡ true = grind (arith, nat_tests) in
     let same : moment ≡ number = grind (arith, nat_tests) in
-    taken_line (stands (of_group (prune moment rule))) run (ap (λ b. b && rule_fits rule) soon ∙ why.0)
+    taken_line (stands (of_group (prune moment rule))) refl (ap (λ b. b && rule_fits rule) soon ∙ why.0)
     ∙ ap (λ r. Ok (stands (of_group (prune moment r)))) why.1 ∙ ap (λ n. Ok (stands (of_group (prune n found)))) same

@@ -25,7 +25,6 @@ mod laws;
 mod lines;
 mod progress;
 mod settings;
-mod today;
 mod words;
 
 use crate::grammar::{FILE_LIMIT, parse};

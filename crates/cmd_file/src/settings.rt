@@ -8,7 +8,6 @@ ghost use Rattle.cmd_file.specs.Words.{rule_to};
 
 use crate::fault::{FORM, LineFault};
 use crate::lines::{LAST_MOMENT, Start};
-use crate::today::{prunes_run, settings_run};
 use crate::words::{is_number, number_to};
 use pool_model::{BadKind, Item, Mode, PruneRule};
 
@@ -28,9 +27,6 @@ const WHOLE: u64 = 100;
 pub fn quota_in(word: &[u8]) -> Result<Start, LineFault>
     ensures { Gives start_of result (tested (quota_line word.now)) }
 {
-    if !settings_run() {
-        return Err(FORM);
-    }
     if word == b"none".as_slice() {
         return Ok(Start::Item(Item::Quota(None)));
     }
@@ -59,9 +55,6 @@ fn mode_of(word: &[u8]) -> Option<Mode>
 pub fn set_mode_in(lane: &[u8], word: &[u8]) -> Result<Start, LineFault>
     ensures { Gives start_of result (tested (mode_line (number_in lane.now) (mode_in word.now))) }
 {
-    if !settings_run() {
-        return Err(FORM);
-    }
     let Some(mode) = mode_of(word) else {
         return Err(FORM);
     };
@@ -98,9 +91,6 @@ pub fn prune_in(moment: &[u8], word: &[u8], number: &[u8]) -> Result<Start, Line
     ensures { Gives start_of result
         (tested (prune_line (number_in moment.now) (rule_of word.now (number_in number.now)))) }
 {
-    if !prunes_run() {
-        return Err(FORM);
-    }
     if !is_number(moment) {
         return Err(FORM);
     }

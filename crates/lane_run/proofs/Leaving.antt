@@ -73,12 +73,12 @@ turns_length [] replies = omega arith
 turns_length (t ∷ tasks) [] = omega arith
 turns_length (t ∷ tasks) (r ∷ replies) = omega (arith, turns_length tasks replies)
 
-refilled_still : (image : Image) (ps : List Pointer) → AllByRecursion (λ p. p.content ≡ take p.key.len (sector_at image p.place)) ps
+pub refilled_still : (image : Image) (ps : List Pointer) → AllByRecursion (λ p. p.content ≡ take p.key.len (sector_at image p.place)) ps
     → map (refilled image) ps ≡ ps
 refilled_still image [] all = refl
 refilled_still image (p ∷ ps) all = λ i. record p { content = sym all.0 i } ∷ refilled_still image ps all.1 i
 
-slots_named : (P : ℕ → Type 0) (ps : List Pointer) → AllByRecursion (λ p. P p.place) ps
+pub slots_named : (P : ℕ → Type 0) (ps : List Pointer) → AllByRecursion (λ p. P p.place) ps
     → AllByRecursion (λ slot. P slot.pointer.place) (map slot_of ps)
 slots_named P [] all = tt
 slots_named P (p ∷ ps) all = (all.0, slots_named P ps all.1)

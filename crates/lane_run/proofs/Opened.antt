@@ -62,7 +62,7 @@ module _ (image : Image) (held : Held) (s : Standing) (over : StandsOver image h
   abbrev Facts : Pointer → Type 0
   Facts p = LiesWithin held.sectors s.pool.group p × IsKeyLength p.key.len
 
-  all_placed : AllByRecursion (IsPlaced held.used []) s.pool.pointers
+  pub all_placed : AllByRecursion (IsPlaced held.used []) s.pool.pointers
   all_placed =
       all_from_both (λ (p : Pointer). IsIn p s.pool.pointers) Facts (IsPlaced held.used [])
       (λ p here facts. record { named = inl (pointer_used p here facts.0 facts.1); long = facts.1.0 }) s.pool.pointers
@@ -70,7 +70,7 @@ module _ (image : Image) (held : Held) (s : Standing) (over : StandsOver image h
       (all_from_both (LiesWithin held.sectors s.pool.group) (λ (p : Pointer). IsKeyLength p.key.len) Facts (λ p a b. (a, b)) s.pool.pointers
       (formed image held s over).within lens)
 
-  all_stand : AllByRecursion (Stands image []) s.pool.pointers
+  pub all_stand : AllByRecursion (Stands image []) s.pool.pointers
   all_stand =
       subst (λ (p : Pool). AllByRecursion (Stands image []) p.pointers) (sym over.is_held.stands.pool_is)
       (each over.is_held.stands.flat.slots)

@@ -125,12 +125,19 @@ found-swapped table key = by_due (is_due (aged table)) refl
 
 -- ---- The whole sync
 
+-- what is found once the changes are logged, in whatever order they stand
+pub found-logged-synced : (changes : List Change) (table : TableState) (key : Key) → IsTable table
+    → StaysOrGoes (found (logged changes table) key) (found (sync_table changes table) key)
+found-logged-synced changes table key is =
+    subst (StaysOrGoes (found (logged changes table) key))
+    (sym (found-swapped (flushed (flush_limit table) (logged changes table)) key))
+    (found-flushed (flush_limit table) (logged changes table) key (logged_keeps changes table is).flush_rising)
+
 pub found-synced : (changes : List Change) (table : TableState) (key : Key) → IsTable table → AreChangesRising changes
     → StaysOrGoes (found_with changes table key) (found (sync_table changes table) key)
 found-synced changes table key is rising =
-    subst (StaysOrGoes (found_with changes table key)) (sym (found-swapped (flushed (flush_limit table) (logged changes table)) key))
-    (subst (λ o. StaysOrGoes o (found (flushed (flush_limit table) (logged changes table)) key)) (found-logged changes table key rising)
-    (found-flushed (flush_limit table) (logged changes table) key (logged_keeps changes table is).flush_rising))
+    subst (λ o. StaysOrGoes o (found (sync_table changes table) key)) (found-logged changes table key rising)
+    (found-logged-synced changes table key is)
 
 -- a home with no pointers counts for nothing, there or gone
 pub counted_stays : (before now : Option Home) → StaysOrGoes before now → counted now ≡ counted before

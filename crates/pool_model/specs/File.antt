@@ -182,26 +182,18 @@ step_line words = None
 
 -- ---- What the program runs today: a line of any other kind is refused as if it were none
 
--- settings aren't run yet
-abbrev pub settings_run : Bool
-settings_run = false
-
--- prunes aren't run yet
-abbrev pub prunes_run : Bool
-prunes_run = false
-
 -- of commands, the writes of lane 0 are run
 abbrev pub command_runs : (lane : ℕ) → Deed → Bool
 command_runs lane (writes block) = lane == 0
 command_runs lane deed = false
 
--- of items that are one line, those that are run
+-- items that are one line
 abbrev pub part_runs : Part → Bool
 part_runs stat = true
 part_runs «import» = true
-part_runs (of_group (prune moment rule)) = prunes_run
-part_runs (of_group (quota limit)) = settings_run
-part_runs (of_group (set_mode lane mode)) = settings_run
+part_runs (of_group (prune moment rule)) = true
+part_runs (of_group (quota limit)) = true
+part_runs (of_group (set_mode lane mode)) = true
 part_runs part = false
 
 abbrev pub runs_today : Line → Bool

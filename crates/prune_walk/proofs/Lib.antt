@@ -1,3 +1,4 @@
 mod Stable
 mod AgeOrder
-mod Pruned
+pub mod Pruned
+pub mod Takes

@@ -59,7 +59,7 @@ aged_total = then_total (on_total (λ (a : Aged). a.since) nat_cmp_total) (on_to
 aged_order : IsStrictWeakOrder is_below
 aged_order = ranks_by aged_total (λ (a : Aged). a)
 
-pointers_inserted : IsInserted (λ p q. is_lt (pool_prune.age_cmp p q)) pool_prune.insert_by_age
+pub pointers_inserted : IsInserted (λ p q. is_lt (pool_prune.age_cmp p q)) pool_prune.insert_by_age
 pointers_inserted = record { order = ranks_by aged_total of_pointer; alone = λ p. refl; step = λ p q qs. refl }
 
 not_either : (o : Ordering) → not (is_lt o) && not (is_lt (ordering_reverse o)) ≡ is_eq o

@@ -112,7 +112,7 @@ module _ {X : Type 0} {lt : X → X → Bool} (order : IsStrictWeakOrder lt) whe
 -- ---- Inserting one by one
 
 module _ {X : Type 0} {lt : X → X → Bool} {insert : X → List X → List X} (is : IsInserted lt insert) where
-  all_inserted : (P : X → Type 0) (x : X) (xs : List X) → P x → AllByRecursion P xs → AllByRecursion P (insert x xs)
+  pub all_inserted : (P : X → Type 0) (x : X) (xs : List X) → P x → AllByRecursion P xs → AllByRecursion P (insert x xs)
   all_inserted P x [] here all = subst (AllByRecursion P) (sym (is.alone x)) (here, tt)
   all_inserted P x (y ∷ ys) here all =
       subst (AllByRecursion P) (sym (is.step x y ys)) (by_test (all_inserted P x ys here all.1) (lt x y))

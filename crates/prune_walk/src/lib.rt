@@ -8,8 +8,6 @@
 //!
 //! The list says which records `Gone` a prune appends to the log. Where a table matches a pool, they are the
 //! changes by which the pool's definition of a prune goes, in the same order (`proofs/Pruned.antt`).
-//!
-//! The prune of a later pool will stand on this crate; the program doesn't use it yet.
 #![tactic(auto)]
 
 mod ages;

@@ -1,12 +1,10 @@
 -- One item more of a session: what it adds to the steps so far, and to what a crash leaves.
 use Rattle.std.proofs.Common.{◌≡◌, ℕ, Bool, true, List, [], ◌∷◌, ◌++◌, Option, Some, None, refl, sym, ap, ◌∙◌, subst, take, append_assoc, append-nil}
-use Rattle.std.specs.List.{AllByRecursion, flat_map}
 use Rattle.std.specs.Io.KnownBytes.{Appends, Keeps}
 use Rattle.std.proofs.KnownBytes.{Appends-trans}
 use Rattle.disk_model.specs.Images.{Image}
 use Rattle.disk_model.specs.Crashes.{DiskState, LeavesOnly}
 use Rattle.disk_model.proofs.Moments.{weakened, and_then}
-use Rattle.ddt_entry.specs.declared.key.Key.{Key}
 use Rattle.pool_model.specs.Plain.{Part}
 use Rattle.pool_model.specs.Clash.{HasNoOther, contents, part_contents, part_trusted}
 use Rattle.pool_model.specs.Group.{Standing, Rules}
@@ -17,8 +15,8 @@ use Rattle.pool_model.specs.Waiting.{AreAmong}
 use Rattle.pool_model.proofs.Laws.{report-append}
 use Rattle.pool_model.proofs.Steps.{last_standing-append, begun-append, parts_of-append, run-append, ends_at}
 use Rattle.pool_model.proofs.Stands.{any_left, any_right, at_right}
-use Rattle.pool_model.proofs.Clashes.{no_other_among, contents_of_item, trusted_by_modes}
-use Rattle.pool_model.proofs.Lists.{all_back, all_front, all_from}
+use Rattle.pool_model.proofs.Clashes.{no_other_among, contents_of_item}
+use Rattle.pool_model.proofs.Lists.{all_from}
 use Rattle.table_state.specs.Holding.{Holds}
 use Rattle.table_state.specs.Pools.{Held}
 use Rattle.session.specs.Devices.{Devices, between}
@@ -32,29 +30,19 @@ use Rattle.session.specs.Running.{is_write_fault}
 use Rattle.session.specs.declared.status.Status.{Status}
 use Rattle.session.specs.declared.status.Status.TheVariants.{Done, Usage, BadFile, SourceFault, SinkFault, ReadFault, WriteFault, NoPool, Damaged, OutOfMemory, PoolExists, BadSize, LastGroup}
 
-trusted_item : (P : List ℕ → Type 0) (s : Standing) (done rest : List Part) (part : Part)
-    → AllByRecursion P (flat_map (part_trusted s.pool) (done ++ part ∷ rest)) → AllByRecursion P (part_trusted s.pool part)
-trusted_item P s [] rest part all = all_front P (part_trusted s.pool part) (flat_map (part_trusted s.pool) rest) all
-trusted_item P s (d ∷ done) rest part all =
-    trusted_item P s done rest part (all_back P (part_trusted s.pool d) (flat_map (part_trusted s.pool) (done ++ part ∷ rest)) all)
-
 -- no two contents of the next item clash where it begins
-pub no_clash_now : (key_of : List ℕ → Key) (s at : Standing) (parts done rest : List Part) (part : Part)
-    → parts ≡ done ++ part ∷ rest → at.pool.modes ≡ s.pool.modes
-    → ((content : List ℕ) → HasNoOther key_of s (contents parts) content → HasNoOther key_of at (contents parts) content)
-    → HasNoClashFrom key_of s parts → HasNoClashIn key_of at part
-no_clash_now key_of s at parts done rest part split modes others clash =
-    let all : List Part = done ++ part ∷ rest in
-    let whole : HasNoClashFrom key_of s all = subst (HasNoClashFrom key_of s) split clash in
-    let there : AllByRecursion (HasNoOther key_of s (contents all)) (part_trusted s.pool part) =
-    trusted_item (HasNoOther key_of s (contents all)) s done rest part whole in
-    let now : (content : List ℕ) → HasNoOther key_of s (contents all) content → HasNoOther key_of at (contents all) content =
-    subst (λ (ps : List Part). (content : List ℕ) → HasNoOther key_of s (contents ps) content → HasNoOther key_of at (contents ps) content)
-    split others in
-    subst (AllByRecursion (HasNoOther key_of at (part_contents part))) (sym (trusted_by_modes s at modes part))
-    (all_from (HasNoOther key_of s (contents all)) (HasNoOther key_of at (part_contents part))
-    (λ content is. no_other_among key_of at (part_contents part) (contents all) content (contents_of_item done rest part) (now content is))
-    (part_trusted s.pool part) there)
+pub no_clash_now : (rules : Rules) (s : Standing) (steps : List RunStep) (parts rest : List Part) (part : Part)
+    → parts ≡ parts_of steps ++ part ∷ rest → IsRun HasFlatRoom rules s steps
+    → ((content : List ℕ) → HasNoOther rules.keying.key_of s (contents parts) content
+    → HasNoOther rules.keying.key_of (last_standing s steps) (contents parts) content)
+    → HasNoClashFrom rules s parts → HasNoClashIn rules.keying.key_of (last_standing s steps) part
+no_clash_now rules s steps parts rest part split run others clash =
+    let at : Standing = last_standing s steps in
+    let among : AreAmong (part_contents part) (contents parts) =
+    subst (λ (ps : List Part). AreAmong (part_contents part) (contents ps)) (sym split) (contents_of_item (parts_of steps) rest part) in
+    all_from (HasNoOther rules.keying.key_of s (contents parts)) (HasNoOther rules.keying.key_of at (part_contents part))
+    (λ content is. no_other_among rules.keying.key_of at (part_contents part) (contents parts) content among (others content is))
+    (part_trusted at.pool part) (clash steps part rest run split)
 
 -- nothing was written behind a text
 kept_text : (old written now : Option (List ℕ)) (text : List ℕ) → Appends old written text → Keeps written now → Appends old now text
@@ -126,7 +114,6 @@ module _ (devices : Devices) (new : DiskState) (now : Option (List ℕ)) (sink :
           run = run-append HasFlatRoom rules s steps (step ∷ []) going.run (item.begins, item.ended, tt);
           over = subst (λ (t : Standing). IsOver new held' t) there item.over;
           sealed_is = subst (λ (t : Standing). sealed' ≡ t.pool.group) there item.sealed_is;
-          modes = subst (λ (t : Standing). t.pool.modes ≡ s.pool.modes) there (item.modes ∙ going.modes);
           text = subst (Appends devices.written now) (sym (report_is rules s steps step))
               (Appends-trans devices.written devices.now now (report steps) (step_text step) going.text item.text);
           others = λ content is.

@@ -15,13 +15,12 @@ use Rattle.pool_model.specs.declared.notes.Outcome.TheVariants.{Sealed, NoSpace,
 use Rattle.pool_model.specs.declared.stats.Stats.{Stats}
 use Rattle.pool_model.specs.Pool.{Pool}
 use Rattle.pool_model.specs.Stats.{stats_of}
-use Rattle.pool_model.specs.Plain.{Task, GroupItem, lanes, Part, create, of_group, stat, «import», Told}
+use Rattle.pool_model.specs.Plain.{GroupItem, Part, create, of_group, stat, «import», Told}
 use Rattle.pool_model.specs.Mirrors.{part_of}
 use Rattle.pool_model.specs.Group.{Standing, Rules, lanes_in_turn}
 use Rattle.pool_model.specs.Run.{DidGroup, HasEnded, HasFlatRoom, RunStep, stands_after, standing_by}
 use Rattle.pool_model.specs.Crash.{AnyStands, StandsAt, begun_by, is_begun_by}
 use Rattle.pool_model.specs.Text.{number_line, stat_text, noted_text, item_text}
-use Rattle.pool_model.proofs.Settings.{modes_stay}
 use Rattle.report.specs.ItemText.{text_of}
 use Rattle.report.specs.Writes.{Wrote}
 use Rattle.table_state.specs.Holding.{Holds}
@@ -69,13 +68,9 @@ ended_at Cut rules s item told after did stands sealed here number = absurd did
 
 -- ---- A group
 
-module _ (devices : Devices) (keying : Keying) (s : Standing) (moment : ℕ) (tasks : List Task) (told : Told) (held : Held)
-    (sealed : ℕ) where
+module _ (devices : Devices) (keying : Keying) (s : Standing) (item : GroupItem) (told : Told) (held : Held) (sealed : ℕ) where
   abbrev rules : Rules
   rules = lanes_in_turn keying
-
-  abbrev item : GroupItem
-  item = lanes moment tasks
 
   module _ (ended : GroupEnded devices.before devices.after rules s item told held) (tag_is : held.tag ≡ keying.tag)
       (sealed_is : sealed ≡ held.group) where
@@ -88,7 +83,6 @@ module _ (devices : Devices) (keying : Keying) (s : Standing) (moment : ℕ) (ta
       ended = ended.ended;
       over = ended.over;
       sealed_is = sealed_is ∙ ended.over.stands.is_held.group_is;
-      modes = modes_stay HasFlatRoom rules s (step ∷ []) (refl, ended.ended, tt) (tt, tt);
       text = text;
       others = ended.others;
       crash = ended.crash;
@@ -191,7 +185,6 @@ module _ (devices : Devices) (rules : Rules) (s : Standing) (held : Held) (seale
         ended = plain_ended part is;
         over = over;
         sealed_is = sealed_is;
-        modes = refl;
         text = text;
         others = λ all among content apart. apart;
         crash = crash_here;

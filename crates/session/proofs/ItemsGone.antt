@@ -18,11 +18,11 @@ use Rattle.pool_model.proofs.Steps.{parts_of-append, notes_of-append}
 use Rattle.table_state.specs.Holding.{Holds}
 use Rattle.table_state.specs.Pools.{Held}
 use Rattle.session.specs.Devices.{Devices, between}
-use Rattle.session.specs.Entries.{last_start}
+use Rattle.session.specs.Entries.{HasNoClashFrom, last_start}
 use Rattle.session.specs.Origins.{origin, may_begin}
 use Rattle.session.specs.StageEntries.{IsOnDisk, IsOver}
 use Rattle.session.specs.StageItems.{HasNoClashIn, ItemWent, may_end_item}
-use Rattle.session.specs.StageGoing.{GoesOn, StopsIn}
+use Rattle.session.specs.StageGoing.{GoesOn, IsGoing, StopsIn}
 use Rattle.session.specs.Running.{told_in, faults_in}
 use Rattle.session.specs.declared.status.Status.{Status}
 use Rattle.session.proofs.Over.{over_leaves}
@@ -65,7 +65,6 @@ module _ (rules : Rules) (first : Held) (parts : List Part) where
       run = tt;
       over = over;
       sealed_is = sealed_is ∙ over.stands.is_held.group_is;
-      modes = refl;
       text = Appends-nil written;
       others = λ content none. none;
       crash = started (λ c. AnyStands (Holds rules.keying.tag c) (s ∷ []))
@@ -106,6 +105,13 @@ module _ (rules : Rules) (first : Held) (parts : List Part) where
             is ∙ ap (λ (n : List Told). n ++ more) were ∙ ap (λ (n : List Told). notes_of steps ++ n) one
             ∙ sym (notes_of-append steps (step ∷ []))
 
+        -- where the item began no two of its contents clash
+        clash_now : (s : Standing) (steps : List RunStep) → done ≡ parts_of steps → IsGoing devices rules s parts steps held sealed
+            → HasNoClashFrom rules s parts → HasNoClashIn rules.keying.key_of (last_standing s steps) part
+        clash_now s steps were going clash =
+            no_clash_now rules s steps parts rest part (subst (λ (d : List Part). parts ≡ d ++ part ∷ rest) were split) going.run
+            going.others clash
+
         split_now : (steps : List RunStep) (step : RunStep) → done ≡ parts_of steps → step.part ≡ part
             → parts ≡ parts_of steps ++ step.part ∷ rest
         split_now steps step were is =
@@ -118,8 +124,7 @@ module _ (rules : Rules) (first : Held) (parts : List Part) where
             let so_far = goes s over clash in
             let going = so_far.3 in
             let at : Standing = last_standing s so_far.0 in
-            let item = went at going.over
-            (no_clash_now rules.keying.key_of s at parts done rest part split going.modes going.others clash) in
+            let item = went at going.over (clash_now s so_far.0 so_far.1 going clash) in
             let step = item.2.0 in (
               so_far.0 ++ step ∷ [],
               parts_more so_far.0 step so_far.1 item.2.1,
@@ -135,8 +140,7 @@ module _ (rules : Rules) (first : Held) (parts : List Part) where
             let so_far = goes s over clash in
             let going = so_far.3 in
             let at : Standing = last_standing s so_far.0 in
-            let item = went at going.over
-            (no_clash_now rules.keying.key_of s at parts done rest part split going.modes going.others clash) in
+            let item = went at going.over (clash_now s so_far.0 so_far.1 going clash) in
             let step = item.2.0 in (
               so_far.0 ++ step ∷ [],
               notes_more so_far.0 step item.0 so_far.2 item.1 item.2.2,

@@ -1,9 +1,7 @@
--- A group whose lanes were run is sealed, or the session ends in its sync.
-use Rattle.std.proofs.Common.{◌≡◌, ◌∙◌, ◌≤◌, ◌+◌, ℕ, Bool, true, false, cond, Option, Some, None, List, [], ◌∷◌, length, map, take, refl, sym, ap, subst, inl, inr, ⊎_elim, arith}
+-- A group that was closed is sealed, or the session ends in its sync.
+use Rattle.std.proofs.Common.{◌≡◌, ◌∙◌, ◌≤◌, ◌+◌, ℕ, Bool, false, cond, Option, Some, None, List, [], ◌∷◌, length, take, refl, sym, ap, subst, inl, inr, ⊎_elim, arith}
 use Rattle.std.specs.Prelude.{◌⊎◌, ◌≢◌, not, unwrap_or}
 use Rattle.std.specs.List.{count_by}
-use Rattle.std.proofs.lemmas.Bool.{eq-eqb}
-use Rattle.std.proofs.lemmas.List.{length-map}
 use Rattle.std.proofs.Math.Nat.{mod-lt}
 use Rattle.disk_model.specs.Images.{Image}
 use Rattle.disk_model.specs.DiskLaws.{Stays}
@@ -19,24 +17,27 @@ use Rattle.pool_model.specs.declared.notes.Outcome.{Outcome}
 use Rattle.pool_model.specs.declared.notes.Outcome.TheVariants.{Sealed, Cut}
 use Rattle.pool_model.specs.Pool.{Pool}
 use Rattle.pool_model.specs.Table.{TableState, flush_limit}
-use Rattle.pool_model.specs.Plain.{Task, lanes, LaneTold, Told}
-use Rattle.pool_model.specs.Space.{need, space_lacking, changes_in, writes_in, free_count, image_pages}
-use Rattle.pool_model.specs.Group.{Standing, Rules, lanes_of, lanes_in_turn}
-use Rattle.pool_model.specs.Run.{HasFlatRoom, given_by, sealed_standing}
-use Rattle.pool_model.specs.Crash.{AnyStands, StandsAt, has_its_lanes, begun_by}
-use Rattle.pool_model.proofs.Kept.{clash_kept}
+use Rattle.pool_model.specs.Plain.{GroupItem, of_group, Told}
+use Rattle.pool_model.specs.Space.{need, space_lacking, free_count, image_pages}
+use Rattle.pool_model.specs.Group.{Standing, Rules, AreFresh, IsFree, lanes_in_turn}
+use Rattle.pool_model.specs.Run.{HasFlatRoom, changes_of_group, given_by, sealed_standing, writes_of_group}
+use Rattle.pool_model.specs.Crash.{AnyStands, StandsAt, begun_by}
+use Rattle.pool_model.proofs.Kept.{group_kept, stays_comes}
 use Rattle.table_state.specs.Pools.{Held, IsHeld}
 use Rattle.table_state.specs.Holding.{Holds, WaitingStand}
 use Rattle.table_state.specs.Over.{StandsOver}
-use Rattle.table_state.specs.Closing.{PlainClosed, CanSyncOver, pages_of, records_after, standing_with, table_after}
+use Rattle.table_state.specs.Closing.{PlainClosed, CanSync, CanSyncOver, pages_of, records_after, standing_with, table_after}
 use Rattle.table_state.proofs.Held.{standing_over, stands_as_held}
 use Rattle.table_state.proofs.RoomLaws.{sealed_pages}
 use Rattle.txg_sync.specs.Syncing.{BeforeGate, IsSynced, KeepsNamed, SyncLeaves, Syncs}
-use Rattle.lane_run.specs.Groups.{IsRunFrom, KeepsWaiting}
+use Rattle.lane_run.specs.Groups.{KeepsWaiting}
 use Rattle.session.specs.Faults.{status_of}
 use Rattle.session.specs.StageEntries.{StandsForTold}
+use Rattle.session.specs.StageClosing.{lacks}
 use Rattle.session.specs.StageGroups.{HasRunOver, GroupEnded, GroupCut, group_step}
+use Rattle.session.specs.StageItems.{KeepsApart}
 use Rattle.session.specs.Running.{is_write_fault}
+use Rattle.session.proofs.NotedGroups.{noted_as, after_group, after_sectors, noted_standing, noted_given, noted_answers, noted_lanes}
 use Rattle.session.proofs.Over.{over_leaves}
 use Rattle.pool_model.specs.Logs.{logs_after}
 
@@ -76,59 +77,47 @@ waits_later image c held after keeps only key home is_found none =
     kept.2 ∙ ap (take key.len)
     (sym (only home.place (not_gate home.place (held.group + 1) kept.1) (not_body home.place (held.group + 1) kept.1) kept.0))
 
--- ---- The group's note
-
-has_lanes : (moment : ℕ) (tasks : List Task) (told : Told) → map (λ (lane : LaneTold). lane.lane) told.lanes ≡ lanes_of tasks
-    → has_its_lanes (lanes moment tasks) told ≡ true
-has_lanes moment tasks told each =
-    eq-eqb (length told.lanes) (length (lanes_of tasks))
-    (sym (length-map told.lanes (λ (lane : LaneTold). lane.lane)) ∙ ap (λ (ls : List ℕ). length ls) each)
-
--- a group that was cut with its lanes noted was begun
-begun_cut : (s after : Standing) (moment : ℕ) (tasks : List Task) (told : Told) → has_its_lanes (lanes moment tasks) told ≡ true
-    → begun_by (group_step s (lanes moment tasks) (record told { outcome = Cut }) after) ≡ after ∷ []
-begun_cut s after moment tasks told has = ap (λ b. cond b (after ∷ []) []) has
+-- ---- Its room
 
 -- a group finds room by what is kept in memory where it does so by what stands
-abbrev lacking : (left : ℕ) → (pages : List ℕ) → TableState → List Task → Option Outcome
-lacking left pages table tasks = space_lacking left (need (length pages) (flush_limit table) (changes_in tasks) (writes_in tasks))
+pub same_lacking : (image : Image) (held : Held) (s : Standing) (changes writes : ℕ) → StandsOver image held s
+    → lacks held changes writes
+    ≡ space_lacking (free_count s.sectors s.pages s.pool s.table) (need (length s.pages) (flush_limit s.table) changes writes)
+same_lacking image held s changes writes over =
+    ap (λ used. space_lacking (count_by not used) (need (length held.pages) (flush_limit held.table) changes writes)) over.is_held.used_are
+    ∙ ap (λ table. space_lacking (free_count held.sectors held.pages s.pool s.table)
+    (need (length held.pages) (flush_limit table) changes writes)) over.is_held.table_is
+    ∙ ap (λ pages. space_lacking (free_count held.sectors pages s.pool s.table)
+    (need (length pages) (flush_limit s.table) changes writes)) over.pages
+    ∙ ap (λ sectors. space_lacking (free_count sectors s.pages s.pool s.table)
+    (need (length s.pages) (flush_limit s.table) changes writes)) over.sectors
 
-pub same_lacking : (image : Image) (held : Held) (s : Standing) (tasks : List Task) → StandsOver image held s
-    → lacking (count_by not held.used) held.pages held.table tasks ≡ lacking
-    (free_count s.sectors s.pages s.pool s.table) s.pages s.table tasks
-same_lacking image held s tasks over =
-    ap (λ used. lacking (count_by not used) held.pages held.table tasks) over.is_held.used_are
-    ∙ ap (λ table. lacking (free_count held.sectors held.pages s.pool s.table) held.pages table tasks) over.is_held.table_is
-    ∙ ap (λ pages. lacking (free_count held.sectors pages s.pool s.table) pages s.table tasks) over.pages
-    ∙ ap (λ sectors. lacking (free_count sectors s.pages s.pool s.table) s.pages s.table tasks) over.sectors
-
--- a run can be synced over what the disk still tells
-pub can_over : (keying : Keying) (old mid : Option Image) (held : Held) (moment : ℕ) (tasks : List Task) (told : Told)
-    (closed : PlainClosed)
-    → (old ≡ None → mid ≡ None) → Stays old mid → StandsForTold old held
-    → ((image : Image) (s : Standing) → old ≡ Some image → StandsOver image held s
-    → IsRunFrom (lanes_in_turn keying) image held s moment tasks told closed)
+-- what a group leaves can be synced over what the disk still tells
+pub can_over : (old mid : Option Image) (held : Held) (closed : PlainClosed) → (old ≡ None → mid ≡ None) → Stays old mid
+    → StandsForTold old held
+    → ((image : Image) (s : Standing) → old ≡ Some image → StandsOver image held s → CanSync image held closed)
     → CanSyncOver mid held closed
-can_over keying None mid held moment tasks told closed untold stays stands run =
-    subst (λ (o : Option Image). CanSyncOver o held closed) (sym (untold refl)) tt
-can_over keying (Some image) mid held moment tasks told closed untold stays (pool, table, is) run =
+can_over None mid held closed untold stays stands can = subst (λ (o : Option Image). CanSyncOver o held closed) (sym (untold refl)) tt
+can_over (Some image) mid held closed untold stays (pool, table, is) can =
     subst (λ (o : Option Image). CanSyncOver o held closed) (sym stays)
-    (run image (standing_over image held pool table) refl (stands_as_held image held pool table is)).can_sync
+    (can image (standing_over image held pool table) refl (stands_as_held image held pool table is))
 
-module _ (keying : Keying) (old new : DiskState) (held : Held) (s : Standing) (moment : ℕ) (tasks : List Task) (told : Told)
-    (closed : PlainClosed)
-    (ran : HasRunOver keying old held s moment tasks told closed) where
+module _ (keying : Keying) (old new : DiskState) (held : Held) (s : Standing) (item : GroupItem) (told : Told) (taken : ℕ)
+    (closed : PlainClosed) (ran : HasRunOver keying old held s item told taken closed) where
   abbrev rules : Rules
   rules = lanes_in_turn keying
 
   abbrev after : List ℕ → Standing
-  after pages = sealed_standing rules s (lanes moment tasks) told pages
+  after pages = after_group keying s told item pages
 
   abbrev Leaves : List ℕ → Image → Type 0
   Leaves pages = SyncLeaves ran.over.image held closed s pages
 
   abbrev stood : StandsOver ran.over.image held s
   stood = ran.over.stands
+
+  sectors_stay : held.sectors ≡ (sealed_standing rules s item told []).sectors
+  sectors_stay = stood.sectors ∙ sym (after_sectors keying s told item)
 
   -- what a sync leaves of the group holds what stands after the run
   after_holds : (pages : List ℕ) (c : Image) → KeepsNamed held ran.over.image c
@@ -137,7 +126,7 @@ module _ (keying : Keying) (old new : DiskState) (held : Held) (s : Standing) (m
   after_holds pages c only holds =
       subst (λ t. Holds t c (after pages)) ran.tag_is
       (moved held.tag c (standing_with ran.over.image held closed pages) (after pages)
-      (ran.run.pool_is ran.no_clash) ran.run.table_is ran.run.logs_are stood.sectors refl
+      (ran.run.pool_is ran.no_clash) ran.run.table_is ran.run.logs_are sectors_stay refl
       (waits_later ran.over.image c held (after pages) ran.run.waiting only) holds)
 
   before_holds : (c : Image) → Holds held.tag c s → Holds keying.tag c s
@@ -156,11 +145,13 @@ module _ (keying : Keying) (old new : DiskState) (held : Held) (s : Standing) (m
   while_syncing pages run = weakened (λ c. AnyStands (Holds keying.tag c) (s ∷ after pages ∷ [])) run (any pages)
 
   -- there was room, and the image has the pages of its pool
-  has_room : (pages : List ℕ) → length pages ≡ pages_of (records_after held closed)
-      → HasFlatRoom s (lanes moment tasks) Sealed (given_by rules s (lanes moment tasks) told) (after pages)
-  has_room pages count = record {
-    outcome_is = ap (λ (o : Option Outcome). unwrap_or o Sealed) (sym ran.room ∙ same_lacking ran.over.image held s tasks stood);
-    fresh = ran.run.fresh;
+  has_room : (outcome : Outcome) (n : ℕ) (pages : List ℕ) → length pages ≡ pages_of (records_after held closed)
+      → HasFlatRoom s item Sealed (given_by rules s item (noted_as told outcome n)) (after pages)
+  has_room outcome n pages count = record {
+    outcome_is =
+        ap (λ (o : Option Outcome). unwrap_or o Sealed)
+        (sym ran.run.room ∙ same_lacking ran.over.image held s (changes_of_group item s.pool) (writes_of_group item) stood);
+    fresh = subst (AreFresh (IsFree s)) (noted_given keying s told outcome n item) ran.run.fresh;
     pages = λ sealed.
         count ∙ sealed_pages ran.over.image held closed
         ∙ ap (λ (p : Pool). image_pages p (table_after held closed) (logs_after closed.log held.table held.logs))
@@ -169,29 +160,41 @@ module _ (keying : Keying) (old new : DiskState) (held : Held) (s : Standing) (m
         ∙ ap (image_pages (after pages).pool (after pages).table) ran.run.logs_are;
   }
 
+  -- a content without another of its key has none after the group
+  stays_apart : (pages : List ℕ) → KeepsApart keying.key_of s (after pages) (of_group item)
+  stays_apart pages all among content apart =
+      let kept =
+      group_kept keying s told [] item all among (stays_comes s (sealed_standing rules s item told []) ran.run.waiting_stays)
+      content apart in
+      record { writes = kept.writes; pointers = kept.pointers; waiting = kept.waiting }
+
   -- the group was sealed
-  pub sealed_now : (noted : Told) (next : Held) → noted ≡ record told { outcome = Sealed } → IsDisk new
+  pub sealed_now : (noted : Told) (next : Held) → noted ≡ noted_as told Sealed taken → IsDisk new
       → (pages : List ℕ) → length pages ≡ pages_of (records_after held closed) → pages ≡ next.pages → LeavesOnly old new (Leaves pages)
       → Syncs old.seen held closed next new.seen → NothingPending new.seen new.may_leave
-      → GroupEnded old new rules s (lanes moment tasks) noted next
+      → GroupEnded old new rules s item noted next
   sealed_now noted next is here pages count same run synced quiet =
-      subst (λ (t : Told). GroupEnded old new rules s (lanes moment tasks) t next) (sym is) (record {
+      subst (λ (t : Told). GroupEnded old new rules s item t next) (sym is) (record {
         after = after pages;
         ended = record {
           number = ran.number ∙ ap (λ n. n + 1) stood.is_held.group_is;
           kind = ran.kind;
-          did = (ran.taken, record { lanes = ran.run.answers.lanes; agrees = ran.run.answers.agrees }, refl);
-          room_is = has_room pages count;
+          did = (
+            ran.run.taken_is,
+            noted_answers keying s told Sealed taken item ran.run.answers,
+            noted_standing keying s told Sealed taken item pages,
+          );
+          room_is = has_room Sealed taken pages count;
         };
         over = record {
           image = there.0;
           told = there.1;
           quiet = still;
           stands = moved_over there.0 next (standing_with ran.over.image held closed next.pages) (after pages)
-              (ran.run.pool_is ran.no_clash) ran.run.table_is ran.run.logs_are stood.sectors (sym same)
+              (ran.run.pool_is ran.no_clash) ran.run.table_is ran.run.logs_are sectors_stay (sym same)
               (waits_later ran.over.image there.0 held (after pages) ran.run.waiting there.2.only) there.2.stands;
         };
-        others = λ all among content apart. clash_kept keying s told pages moment tasks all among ran.run.waiting_stays content apart;
+        others = stays_apart pages;
         crash = while_syncing pages run;
       })
     where
@@ -225,23 +228,23 @@ module _ (keying : Keying) (old new : DiskState) (held : Held) (s : Standing) (m
         ⊎_elim (λ was. inl (refl, inl was)) (λ then. inl (refl, inr (refl, then))) (either pages c (at_end run here c left))
 
   -- the sync failed
-  pub cut_now : (noted : Told) (fault : SyncFault) → noted ≡ record told { outcome = Cut } → IsDisk new
+  pub cut_now : (noted : Told) (fault : SyncFault) → noted ≡ noted_as told Cut 0 → IsDisk new
       → (pages : List ℕ) → length pages ≡ pages_of (records_after held closed) → LeavesOnly old new (Leaves pages)
       → (fault ≡ syncs.WriteFault → LeavesOnly old new (BeforeGate ran.over.image held s))
       → (fault ≡ syncs.Memory → (c : Image) → new.may_leave c → old.may_leave c)
       → ((sector : ℕ) → fault ≡ syncs.Damaged sector → (c : Image) → new.may_leave c → old.may_leave c)
       → (fault ≡ syncs.ReadFault → (c : Image) → new.may_leave c → old.may_leave c)
-      → GroupCut old new rules s (lanes moment tasks) noted (status_of fault)
+      → GroupCut old new rules s item noted (status_of fault)
   cut_now noted fault is here pages count run before unwritten damaged unread =
-      subst (λ (t : Told). GroupCut old new rules s (lanes moment tasks) t (status_of fault)) (sym is) (record {
+      subst (λ (t : Told). GroupCut old new rules s item t (status_of fault)) (sym is) (record {
         after = after pages;
         cut = record {
           number = ran.number ∙ ap (λ n. n + 1) stood.is_held.group_is;
           kind = ran.kind;
           outcome = refl;
-          taken = ran.taken;
-          after_is = refl;
-          did = inr (record { lanes = ran.run.answers.lanes; agrees = ran.run.answers.agrees }, has_room pages count);
+          taken = refl;
+          after_is = noted_standing keying s told Cut 0 item pages;
+          did = inr (noted_answers keying s told Cut 0 item ran.run.answers, has_room Cut 0 pages count);
         };
         crash = subst (λ (stands : List Standing). LeavesOnly old new (λ c. AnyStands (Holds keying.tag c) (s ∷ stands))) (sym began)
             (while_syncing pages run);
@@ -251,5 +254,5 @@ module _ (keying : Keying) (old new : DiskState) (held : Held) (s : Standing) (m
             (at_return pages here run fault before unwritten damaged unread c left);
       })
     where
-      began : begun_by (group_step s (lanes moment tasks) (record told { outcome = Cut }) (after pages)) ≡ after pages ∷ []
-      began = begun_cut s (after pages) moment tasks told (has_lanes moment tasks told ran.run.answers.lanes.lanes)
+      began : begun_by (group_step s item (noted_as told Cut 0) (after pages)) ≡ after pages ∷ []
+      began = ap (λ b. cond b (after pages ∷ []) []) (noted_lanes keying s told Cut 0 item ran.run.answers)

@@ -1,12 +1,11 @@
 -- Where a session's items begin, and the premise on digests.
-use Rattle.std.specs.Prelude.{◌≡◌, ◌≤◌, ◌-◌, ◌^◌, ℕ, List, length}
-use Rattle.std.specs.List.{AllByRecursion, flat_map}
-use Rattle.ddt_entry.specs.declared.key.Key.{Key}
+use Rattle.std.specs.Prelude.{◌≡◌, ◌≤◌, ◌-◌, ◌^◌, ◌++◌, ◌∷◌, ℕ, List, length}
+use Rattle.std.specs.List.{AllByRecursion}
 use Rattle.disk_model.specs.Images.{Image, sector_at}
 use Rattle.pool_model.specs.Plain.{Part}
 use Rattle.pool_model.specs.Clash.{HasNoOther, contents, part_trusted}
-use Rattle.pool_model.specs.Group.{Standing}
-use Rattle.pool_model.specs.Run.{first_standing}
+use Rattle.pool_model.specs.Group.{Standing, Rules}
+use Rattle.pool_model.specs.Run.{HasFlatRoom, IsRun, RunStep, first_standing, last_standing, parts_of}
 use Rattle.table_state.specs.Flat.{HasNoPool}
 use Rattle.table_state.specs.Holding.{Holds}
 use Rattle.table_state.specs.SealForms.{fewest_sectors, most_sectors}
@@ -39,7 +38,9 @@ abbrev pub BeginsAt : Word → (tag : ℕ) → Image → Standing → Type 0
 BeginsAt Run tag image s = IsFound tag image s
 BeginsAt Make tag image s = IsMade image s
 
--- no content that the items write in a lane whose mode is on has another content of its key beside it: not among all that they write, nor in
--- the pool where they begin, nor at a home that waits there
-abbrev pub HasNoClashFrom : (List ℕ → Key) → Standing → List Part → Type 0
-HasNoClashFrom key_of s parts = AllByRecursion (HasNoOther key_of s (contents parts)) (flat_map (part_trusted s.pool) parts)
+-- no content that an item writes in a lane whose mode is on has another content of its key beside it: not among all that the items write, nor
+-- in the pool where they begin, nor at a home that waits there. The modes are those that stand once the items before it have run
+abbrev pub HasNoClashFrom : Rules → Standing → List Part → Type 0
+HasNoClashFrom rules s parts =
+    (steps : List RunStep) (part : Part) (rest : List Part) → IsRun HasFlatRoom rules s steps → parts ≡ parts_of steps ++ part ∷ rest
+    → AllByRecursion (HasNoOther rules.keying.key_of s (contents parts)) (part_trusted (last_standing s steps).pool part)

@@ -12,6 +12,7 @@ pub mod StageEntries
 pub mod StageFinding
 pub mod StageMaking
 pub mod StageOpening
+pub mod StageClosing
 pub mod StageGroups
 pub mod StageItems
 pub mod StageGoing

@@ -59,7 +59,7 @@ pub record HasBegunItems (devices : Devices) (word : Word) (rules : Rules) (imag
   pub s : Standing
   pub begins : BeginsAt word rules.keying.tag image s
   pub may : may_begin (origin status) ≡ true
-  pub went : HasNoClashFrom rules.keying.key_of s parts → Went devices rules image s parts session status
+  pub went : HasNoClashFrom rules s parts → Went devices rules image s parts session status
 
 -- the file was read to its end, and its items began
 pub record HasBegun (devices : Devices) (input : Input) (word : Word) (rules : Rules) (image : Image) (session : Session)

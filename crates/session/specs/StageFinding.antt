@@ -1,5 +1,5 @@
 -- A stage of a session: finding the pool that is on the disk, and why none was found.
-use Rattle.std.specs.Prelude.{◌≡◌, ℕ, ⊤, Option, Some, Result, Ok, Err, IfSome}
+use Rattle.std.specs.Prelude.{◌≡◌, ℕ, ⊤, Some, Result, Ok, Err, IfSome}
 use Rattle.io_model.specs.Outside.{Rose}
 use Rattle.disk_model.specs.Images.{Image}
 use Rattle.disk_model.specs.Crashes.{DiskState, LeavesOnly, NothingPending}

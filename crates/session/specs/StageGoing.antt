@@ -28,7 +28,6 @@ pub record IsGoing (devices : Devices) (rules : Rules) (s : Standing) (parts : L
   pub run : IsRun HasFlatRoom rules s steps
   pub over : IsOver devices.after held (last_standing s steps)
   pub sealed_is : sealed ≡ (last_standing s steps).pool.group
-  pub modes : (last_standing s steps).pool.modes ≡ s.pool.modes
   pub text : Appends devices.written devices.now (report steps)
   pub others : (content : List ℕ) → HasNoOther rules.keying.key_of s (contents parts) content
       → HasNoOther rules.keying.key_of (last_standing s steps) (contents parts) content
@@ -37,7 +36,7 @@ pub record IsGoing (devices : Devices) (rules : Rules) (s : Standing) (parts : L
 -- whatever the items began at, without two contents that clash: these parts were done, with these notes
 abbrev pub GoesOn : Devices → Rules → (first : Held) → (parts done : List Part) → List Told → Held → (sealed : ℕ) → Type 0
 GoesOn devices rules first parts done notes held sealed =
-    (s : Standing) → IsOver devices.before first s → HasNoClashFrom rules.keying.key_of s parts
+    (s : Standing) → IsOver devices.before first s → HasNoClashFrom rules s parts
     → (steps : List RunStep) × (done ≡ parts_of steps) × (notes ≡ notes_of steps) × IsGoing devices rules s parts steps held sealed
 
 -- the session ended in the last of these steps: a crash left what stood or what they began, and at return what was sealed last, or, where a
@@ -52,7 +51,7 @@ pub record IsStopped (devices : Devices) (rules : Rules) (s : Standing) (parts :
 
 abbrev pub StopsIn : Devices → Rules → (first : Held) → List Part → List Told → (sealed : ℕ) → Status → Type 0
 StopsIn devices rules first parts notes sealed status =
-    (s : Standing) → IsOver devices.before first s → HasNoClashFrom rules.keying.key_of s parts
+    (s : Standing) → IsOver devices.before first s → HasNoClashFrom rules s parts
     → (steps : List RunStep) × (notes ≡ notes_of steps) × IsStopped devices rules s parts steps sealed status
 
 -- the items of a file ran over an image, or none was begun

@@ -1,28 +1,24 @@
 -- A stage of a session: a group before its text is written, which ended, or in which the session ends.
-use Rattle.std.specs.Prelude.{◌≡◌, ◌+◌, ℕ, not, sum_by, List, [], ◌∷◌, length, Option, Some, None, Result, Ok, Err, IsErrOf}
-use Rattle.std.specs.List.{count_by}
+use Rattle.std.specs.Prelude.{◌≡◌, ◌+◌, ℕ, sum_by, [], ◌∷◌, Some, Result, Ok, Err, IsErrOf}
 use Rattle.disk_model.specs.Images.{Image}
 use Rattle.disk_model.specs.Crashes.{DiskState, LeavesOnly}
 use Rattle.disk_model.specs.declared.disk.Failed.{Failed}
 use Rattle.pool_model.specs.declared.faults.GroupFault.{GroupFault}
 use Rattle.pool_model.specs.declared.faults.GroupFault.TheVariants as groups
-use Rattle.pool_model.specs.declared.notes.Kind.TheVariants.{Lanes}
+use Rattle.pool_model.specs.declared.notes.Kind.{Kind}
 use Rattle.pool_model.specs.declared.notes.Outcome.{Outcome}
 use Rattle.pool_model.specs.declared.notes.Outcome.TheVariants.{Sealed, NoSpace, Cut}
-use Rattle.pool_model.specs.Plain.{Task, GroupItem, Part, of_group, Told}
+use Rattle.pool_model.specs.Plain.{GroupItem, of_group, Told}
 use Rattle.ddt_entry.specs.Keys.{Keying}
 use Rattle.pool_model.specs.Group.{Standing, Rules, lanes_in_turn}
-use Rattle.pool_model.specs.Run.{HasFlatRoom, EndsGroup, RunStep, stands_after}
+use Rattle.pool_model.specs.Run.{HasFlatRoom, EndsGroup, RunStep, kind_of, stands_after}
 use Rattle.pool_model.specs.Crash.{AnyStands, StandsAt, begun_by}
-use Rattle.pool_model.specs.Space.{need, space_lacking, changes_in, writes_in}
-use Rattle.pool_model.specs.Table.{flush_limit}
-use Rattle.report.specs.Writes.{Wrote}
 use Rattle.table_state.specs.Closing.{PlainClosed}
 use Rattle.table_state.specs.Holding.{Holds}
 use Rattle.table_state.specs.Pools.{Held}
-use Rattle.lane_run.specs.Groups.{HasNoClash, IsRunFrom}
+use Rattle.session.specs.StageClosing.{ClosesFrom}
 use Rattle.session.specs.StageEntries.{IsOver}
-use Rattle.session.specs.StageItems.{KeepsApart}
+use Rattle.session.specs.StageItems.{HasNoClashIn, KeepsApart}
 use Rattle.session.specs.Stopping.{IsCutGroup}
 use Rattle.session.specs.Running.{is_write_fault}
 use Rattle.session.specs.declared.status.Status.{Status}
@@ -44,10 +40,14 @@ refused_by groups.WriteFault = Err WriteFault
 refused_by (groups.Damaged sector) = Err (Damaged sector)
 refused_by groups.Memory = Err OutOfMemory
 
--- how a group is noted whose lanes were run
+-- how a group is noted that was to be sealed, and how many homes it took then
 abbrev pub outcome_after : Result Unit Status → Outcome
 outcome_after (Ok done) = Sealed
 outcome_after (Err status) = Cut
+
+abbrev pub taken_after : (taken : ℕ) → Result Unit Status → ℕ
+taken_after taken (Ok done) = taken
+taken_after taken (Err status) = 0
 
 -- the faults that its lanes had
 abbrev pub faults_of : Told → ℕ
@@ -59,25 +59,23 @@ ended_by (Ok done) = Ok tt
 ended_by (Err failed) = Err SinkFault
 
 -- the note of a group that has not done anything
-abbrev pub new_told : (number : ℕ) → Outcome → Told
-new_told number outcome = record { number = number; kind = Lanes; outcome = outcome; taken = 0; lanes = [] }
+abbrev pub new_told : (number : ℕ) → Kind → Outcome → Told
+new_told number kind outcome = record { number = number; kind = kind; outcome = outcome; taken = 0; lanes = [] }
 
 -- a group's step
 abbrev pub group_step : (before : Standing) → GroupItem → Told → (after : Standing) → RunStep
 group_step before item told after = record { part = of_group item; before = before; note = Some told; after = after }
 
--- the lanes of a group were run over these told contents, and what they leave finds room
-pub record HasRunOver (keying : Keying) (disk : DiskState) (held : Held) (s : Standing) (moment : ℕ) (tasks : List Task) (told : Told)
+-- a group was closed over these told contents, and is not sealed yet
+pub record HasRunOver (keying : Keying) (disk : DiskState) (held : Held) (s : Standing) (item : GroupItem) (told : Told) (taken : ℕ)
     (closed : PlainClosed) : Type 0 where
   pub over : IsOver disk held s
   pub tag_is : held.tag ≡ keying.tag
-  pub no_clash : HasNoClash keying.key_of s moment tasks
-  pub run : IsRunFrom (lanes_in_turn keying) over.image held s moment tasks told closed
-  pub room : space_lacking (count_by not held.used)
-      (need (length held.pages) (flush_limit held.table) (changes_in tasks) (writes_in tasks)) ≡ None
+  pub no_clash : HasNoClashIn keying.key_of s (of_group item)
+  pub run : ClosesFrom (lanes_in_turn keying) over.image held s item told taken closed
   pub number : told.number ≡ held.group + 1
-  pub kind : told.kind ≡ Lanes
-  pub taken : told.taken ≡ 0
+  pub kind : told.kind ≡ kind_of item
+  pub untaken : told.taken ≡ 0
 
 -- a group ended: its note is a run's, the pool in memory is over what stands after it, and a crash left what stood or what it began
 pub record GroupEnded (old new : DiskState) (rules : Rules) (s : Standing) (item : GroupItem) (told : Told) (held : Held) : Type 0 where

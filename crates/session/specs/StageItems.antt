@@ -51,7 +51,6 @@ pub record ItemDone (devices : Devices) (rules : Rules) (s : Standing) (step : R
   pub ended : HasEnded HasFlatRoom rules step
   pub over : IsOver devices.after held (stands_after step)
   pub sealed_is : sealed ≡ (stands_after step).pool.group
-  pub modes : (stands_after step).pool.modes ≡ s.pool.modes
   pub text : Appends devices.written devices.now (step_text step)
   pub others : KeepsApart rules.keying.key_of s (stands_after step) step.part
   pub crash : LeavesOnly devices.before devices.after (λ c. AnyStands (Holds rules.keying.tag c) (s ∷ begun_by step))

@@ -6,7 +6,7 @@ use Rattle.table_state.specs.Flat.{HasNoPool}
 use Rattle.txg_sync.specs.FirstSeal.{NoneOrNew}
 use Rattle.txg_sync.specs.FirstSeal.{SameOutside}
 use Rattle.session.specs.declared.status.Status.{Status}
-use Rattle.session.specs.declared.status.Status.TheVariants.{Done, Usage, BadFile, SourceFault, SinkFault, ReadFault, WriteFault, NoPool, Damaged, OutOfMemory, PoolExists, BadSize, LastGroup}
+use Rattle.session.specs.declared.status.Status.TheVariants.{Done, SinkFault, WriteFault}
 use Rattle.session.specs.declared.words.Word.{Word}
 use Rattle.session.specs.declared.words.Word.TheVariants.{Run, Make}
 

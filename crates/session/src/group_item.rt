@@ -1,6 +1,6 @@
-//! How a group of an item is done: its lanes run, what they leave is synced, and its text is written.
+//! How a group of an item is done: it is closed, what it leaves is synced, and its text is written.
 
-ghost use Rattle.std.specs.Prelude.{◌≡◌, ◌≤◌, ◌<◌, ◌+◌, ◌-◌, ◌^◌, ◌++◌, ◌∷◌, [], ℕ, true, List, Some, None, Err, min, map, ◌⊎◌, OnOk, IsOk, IsErrOf};
+ghost use Rattle.std.specs.Prelude.{◌≡◌, ◌≤◌, ◌<◌, ◌+◌, ◌-◌, ◌^◌, ◌++◌, ◌∷◌, [], ℕ, true, List, Some, None, Err, min, ◌⊎◌, OnOk, IsOk, IsErrOf};
 ghost use Rattle.cmd_file.specs.Items.{IsItem};
 ghost use Rattle.disk_model.specs.Images.{Image};
 ghost use Rattle.io_model.specs.Outside.{Rose};
@@ -8,8 +8,9 @@ ghost use Rattle.pool_model.specs.declared.notes.Outcome.TheVariants as outcomes
 ghost use Rattle.ddt_entry.specs.Keys.{Keying};
 ghost use Rattle.pool_model.specs.Group.{Standing, lanes_in_turn};
 ghost use Rattle.pool_model.specs.Text.{noted_text};
-ghost use Rattle.pool_model.specs.Plain.{GroupItem, Task, Told, lanes, of_group, told_of};
-ghost use Rattle.pool_model.specs.Mirrors.{part_of, task_of};
+ghost use Rattle.pool_model.specs.Plain.{GroupItem, Told, of_group, told_of};
+ghost use Rattle.pool_model.specs.Mirrors.{part_of};
+ghost use Rattle.pool_model.specs.Run.{kind_of};
 ghost use Rattle.report.specs.Writes.{Wrote};
 ghost use Rattle.table_state.specs.Sound.{IsSound};
 ghost use Rattle.table_state.specs.SealForms.{last_group};
@@ -18,16 +19,17 @@ ghost use Rattle.session.specs.Devices.{between};
 ghost use Rattle.session.specs.Origins.{origin, may_begin};
 ghost use Rattle.session.specs.Running.{told_in, faults_in, RoseBeyond};
 ghost use Rattle.session.specs.StageEntries.{IsOnDisk, IsOver};
-ghost use Rattle.session.specs.StageGroups.{HasRunOver, GroupWent, outcome_by, refused_by, outcome_after, new_told, faults_of, ended_by, TellsGroup};
+ghost use Rattle.session.specs.StageClosing.{IsGroup};
+ghost use Rattle.session.specs.StageGroups.{HasRunOver, GroupWent, outcome_by, refused_by, outcome_after, taken_after, new_told, faults_of, ended_by, TellsGroup};
 ghost use Rattle.session.specs.StageItems.{HasNoClashIn, ItemWent, may_end_item};
 ghost use Rattle.session.specs.declared.status.Status.{Status};
 
+use crate::closing::{close_group, kind_of};
 use crate::status::{Status, told};
 use ddt_entry::KeyOf;
 use disk_model::{Disk, Failed, crash_laws};
 use io_model::Sink;
-use lane_run::run_group_plain;
-use pool_model::{Closed, GroupFault, GroupNote, Item, Kind, LanesGroup, Outcome, Session};
+use pool_model::{Closed, GroupFault, GroupNote, Item, Outcome, Session};
 use report::{NO_STATS, write_item};
 use reserved_list::ReservedList;
 use std::alloc::Global;
@@ -52,13 +54,14 @@ fn refuse(note: &mut GroupNote, fault: GroupFault) -> Result<(), Status>
     }
 }
 
-/// Syncs what the lanes of a group left, and notes that the group was sealed. After a fault the note is as it was, and
-/// the pool is given up.
+/// Syncs what a group left, and notes that it was sealed, with the number of homes that it took. After a fault the note
+/// is as it was, and the pool is given up.
 fn seal_run<D: Disk>(
     alloc: Global,
     pool: &mut Pool,
     disk: &mut D,
     closed: &Closed,
+    taken: u64,
     note: &mut GroupNote,
 ) -> Result<(), Status>
     requires sound { IsSound pool.old }
@@ -67,14 +70,15 @@ fn seal_run<D: Disk>(
     requires there { pool.old.sectors ≤ (D.state disk.old).sectors }
     requires over { CanSyncOver (D.state disk.old).seen pool.old (closed_of closed.now) }
     requires cut { note.old.outcome ≡ outcomes.Cut }
+    requires untaken { note.old.taken ≡ 0 }
     ensures sectors { (D.state disk.new).sectors ≡ (D.state disk.old).sectors }
-    ensures noted { told_of note.new ≡ record (told_of note.old) { outcome = outcome_after result } }
+    ensures noted { told_of note.new ≡ record (told_of note.old) { outcome = outcome_after result; taken = taken_after taken result } }
     ensures on_disk { (tag : ℕ) → IsOnDisk (D.state disk.old) tag pool.old → OnOk result (IsOnDisk (D.state disk.new) tag pool.new) }
     ensures number { OnOk result (pool.new.group ≡ pool.old.group + 1) }
     ensures size { OnOk result (pool.new.sectors ≡ pool.old.sectors) }
-    ensures went { (keying : Keying) (s : Standing) (moment : ℕ) (tasks : List Task)
-        → HasRunOver keying (D.state disk.old) pool.old s moment tasks (told_of note.old) (closed_of closed.now)
-        → GroupWent (D.state disk.old) (D.state disk.new) (lanes_in_turn keying) s (lanes moment tasks) (told_of note.new) pool.new result }
+    ensures went { (keying : Keying) (s : Standing) (group : GroupItem)
+        → HasRunOver keying (D.state disk.old) pool.old s group (told_of note.old) taken (closed_of closed.now)
+        → GroupWent (D.state disk.old) (D.state disk.new) (lanes_in_turn keying) s group (told_of note.new) pool.new result }
     ensures ended { (image : Image) (status : Status) → (D.state disk.old).seen ≡ Some image → IsErrOf result status → may_begin (origin status) ≡ true }
     ensures devices { (status : Status) → IsErrOf result status → may_end_item (origin status) ≡ true }
     ensures device { IsErrOf result Status.SinkFault → ⊥ }
@@ -89,35 +93,39 @@ fn seal_run<D: Disk>(
     match sealed {
         Ok(_) => {
             note.outcome = Outcome::Sealed;
+            note.taken = taken;
             Ok(())
         }
         Err(fault) => Err(told(fault)),
     }
 }
 
-/// Runs the lanes of a group over the pool in memory, and syncs what they leave: notes how the group ended. After
-/// a fault the pool is given up.
+/// Closes a group over the pool in memory, and syncs what it leaves: notes how the group ended. After a fault the
+/// pool is given up.
 fn run_group<D: Disk, K: KeyOf>(
     alloc: Global,
     pool: &mut Pool,
     disk: &mut D,
     keyer: &K,
-    group: &LanesGroup,
+    item: &Item,
     note: &mut GroupNote,
 ) -> Result<(), Status>
-    requires form { IsItem (of_group (lanes group.now.moment (map task_of group.now.commands.items))) }
+    requires is { IsGroup item.now }
+    requires form { IsItem (part_of item.now) }
     requires on_disk { IsOnDisk (D.state disk.old) (K.keying keyer.now).tag pool.old }
     requires last { pool.old.group + 1 ≤ last_group }
-    requires new { told_of note.old ≡ new_told (pool.old.group + 1) outcomes.Cut }
+    requires new { (group : GroupItem) → part_of item.now ≡ of_group group
+        → told_of note.old ≡ new_told (pool.old.group + 1) (kind_of group) outcomes.Cut }
+    requires cut { note.old.outcome ≡ outcomes.Cut }
+    requires untaken { note.old.taken ≡ 0 }
     requires unnoted { note.old.lanes.items ≡ [] }
     ensures sectors { (D.state disk.new).sectors ≡ (D.state disk.old).sectors }
     ensures on_disk { OnOk result (IsOnDisk (D.state disk.new) (K.keying keyer.now).tag pool.new) }
     ensures next { OnOk result (pool.new.group ≤ pool.old.group + 1) }
     ensures size { OnOk result (pool.new.sectors ≡ pool.old.sectors) }
-    ensures went { (s : Standing) → IsOver (D.state disk.old) pool.old s
-        → HasNoClashIn (K.keying keyer.now).key_of s (of_group (lanes group.now.moment (map task_of group.now.commands.items)))
-        → GroupWent (D.state disk.old) (D.state disk.new) (lanes_in_turn (K.keying keyer.now)) s
-        (lanes group.now.moment (map task_of group.now.commands.items)) (told_of note.new) pool.new result }
+    ensures went { (s : Standing) (group : GroupItem) → IsOver (D.state disk.old) pool.old s → part_of item.now ≡ of_group group
+        → HasNoClashIn (K.keying keyer.now).key_of s (of_group group)
+        → GroupWent (D.state disk.old) (D.state disk.new) (lanes_in_turn (K.keying keyer.now)) s group (told_of note.new) pool.new result }
     ensures ended { (image : Image) (status : Status) → (D.state disk.old).seen ≡ Some image → IsErrOf result status → may_begin (origin status) ≡ true }
     ensures devices { (status : Status) → IsErrOf result status → may_end_item (origin status) ≡ true }
     ensures device { IsErrOf result Status.SinkFault → ⊥ }
@@ -127,8 +135,8 @@ fn run_group<D: Disk, K: KeyOf>(
     ensures write_cause { IsErrOf result Status.WriteFault → Rose (D.state disk.old).write_faults (D.state disk.new).write_faults }
 {
     crash_laws(disk);
-    match run_group_plain(alloc, pool, disk, keyer, group, note) {
-        Ok(closed) => seal_run(alloc, pool, disk, &closed, note),
+    match close_group(alloc, pool, disk, keyer, item, note) {
+        Ok((closed, taken)) => seal_run(alloc, pool, disk, &closed, taken, note),
         Err(fault) => refuse(note, fault),
     }
 }
@@ -219,10 +227,9 @@ pub(crate) fn do_group<D: Disk, W: Sink, K: KeyOf>(
     out: &mut W,
     keyer: &K,
     item: &Item,
-    group: &LanesGroup,
     session: &mut Session,
 ) -> Result<(), Status>
-    requires is { part_of item.now ≡ of_group (lanes group.now.moment (map task_of group.now.commands.items)) }
+    requires is { IsGroup item.now }
     requires form { IsItem (part_of item.now) }
     requires room { 0 < session.old.groups.spare }
     requires on_disk { IsOnDisk (D.state disk.old) (K.keying keyer.now).tag pool.old }
@@ -254,11 +261,11 @@ pub(crate) fn do_group<D: Disk, W: Sink, K: KeyOf>(
     }
     let mut note = GroupNote {
         number: pool.sealed + 1,
-        kind: Kind::Lanes,
+        kind: kind_of(item),
         outcome: Outcome::Cut,
         taken: 0,
         lanes: ReservedList::new(alloc),
     };
-    let ended = run_group(alloc, pool, disk, keyer, group, &mut note);
+    let ended = run_group(alloc, pool, disk, keyer, item, &mut note);
     end_group(out, item, note, session, pool.sealed, ended)
 }

@@ -63,9 +63,11 @@ pub(crate) fn do_item<D: Disk, W: Sink, K: KeyOf>(
     ensures sink_cause { IsErrOf result Status.SinkFault → Rose (W.faults out.old) (W.faults out.new) }
 {
     match item {
-        Item::Lanes(group) => do_group(alloc, pool, disk, out, keyer, item, group, session),
+        Item::Lanes(_) | Item::Prune { .. } | Item::Quota(_) | Item::SetMode { .. } => {
+            do_group(alloc, pool, disk, out, keyer, item, session)
+        }
         Item::Stat => do_stat(pool, disk, out, keyer, item, session),
         Item::Import => do_import(alloc, pool, disk, out, keyer, item, session),
-        Item::Create | Item::Prune { .. } | Item::Quota(_) | Item::SetMode { .. } => unreachable!(),
+        Item::Create => unreachable!(),
     }
 }

@@ -15,6 +15,7 @@
 //! of the image: that is `txg_sync`'s and `pool_import`'s.
 #![tactic(auto)]
 
+mod closing;
 mod finding;
 mod group_item;
 mod item;
@@ -22,6 +23,7 @@ mod looking;
 mod making;
 mod opening;
 mod plain_item;
+mod pruning;
 mod running;
 mod status;
 mod words;

@@ -158,7 +158,7 @@ places_after image table (slot ∷ slots) = ap (λ (places : List ℕ). slot.poi
 
 -- what holds of each entry and of each change holds of each home that the table finds
 module _ (P : Entry → Type 0) (Q : Change → Type 0) (entry_of : (entry : Entry) → Q (changes.Entry entry) → P entry) where
-  all_found : (log : List Change) (entries : List Entry) → AllByRecursion Q log → AllByRecursion P entries
+  pub all_found : (log : List Change) (entries : List Entry) → AllByRecursion Q log → AllByRecursion P entries
       → AllByRecursion P (fold set_found entries log)
   all_found [] entries logged all = all
   all_found (changes.Entry entry ∷ log) entries logged all = all_found log (set_entry entry entries) logged.1

@@ -2,7 +2,7 @@
 use Rattle.std.proofs.Common.{Err, None, [], ap, refl, subst}
 use Rattle.session.specs.StageMaking.{IsNewPool, Makes}
 use Rattle.session.proofs.Causes.{sized_so}
-use Rattle.session.proofs.Looked.{creates, creates_nothing, made_cause, written_cause}
+use Rattle.session.proofs.Looked.{creates, creates_nothing, made_cause}
 use Rattle.session.proofs.looking.create_pool.Goals as goal
 
 pub returns-in-Ok-clause-created : goal.returns-in-Ok-clause-created

@@ -1,5 +1,5 @@
 -- A crash leaves what stood or the new pool, by the stages of its seal.
-use Rattle.std.proofs.Common.{◌≤◌, Err, ap, arith, subst, sym, ◌∙◌}
+use Rattle.std.proofs.Common.{Err, ap, arith, subst, sym, ◌∙◌}
 use Rattle.table_state.specs.Pools.{Held}
 use Rattle.session.proofs.Imported.{told_created}
 use Rattle.disk_model.specs.DiskLaws.{TellsImage}

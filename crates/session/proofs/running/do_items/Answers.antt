@@ -1,4 +1,4 @@
-use Rattle.std.proofs.Common.{◌≡◌, List, ◌∷◌, ◌++◌, map, take, drop, suc, refl, sym, ap, subst, ◌∙◌, arith}
+use Rattle.std.proofs.Common.{◌≡◌, List, ◌∷◌, ◌++◌, map, take, drop, suc, refl, sym, subst, arith}
 use Rattle.std.proofs.lemmas.List.{take_all}
 use Rattle.cmd_file.specs.Items.{IsItem}
 use Rattle.pool_model.specs.Group.{Rules, lanes_in_turn}
@@ -10,7 +10,6 @@ use Rattle.session.specs.StageGoing.{GoesOn, StopsIn}
 use Rattle.session.specs.declared.status.Status.{Status}
 use Rattle.session.specs.Entries.{last_start}
 use Rattle.session.specs.Running.{told_in, faults_in}
-use Rattle.session.proofs.Goings.{with_item}
 use Rattle.session.proofs.ItemsGone.{split_of, gone_start, done_more, told_before, goes_more, goes_stop, reads_more, early_more, same_sectors}
 use Rattle.session.proofs.running.do_items.Goals as goal
 

@@ -1,6 +1,6 @@
 use Rattle.std.proofs.Common.{refl, inr}
 use Rattle.session.specs.declared.status.Status.TheVariants.{SourceFault, OutOfMemory}
-use Rattle.session.proofs.Sessions.{untouched, size_before_devices}
+use Rattle.session.proofs.Sessions.{untouched}
 use Rattle.session.proofs.running.run.Goals as goal
 
 pub returns-in-Err-Bad-clause-ran : goal.returns-in-Err-Bad-clause-ran

@@ -5,7 +5,7 @@ use Rattle.session.specs.Devices.{between}
 use Rattle.session.specs.Running.{faults_in}
 use Rattle.session.specs.declared.status.Status.TheVariants.{OutOfMemory}
 use Rattle.session.proofs.ItemsGone.{told_before}
-use Rattle.session.proofs.Sessions.{untouched, not_opened, all_done, stopped_in, opening_is_of_devices, items_are_of_devices, never_of_size, by_size, opening_cause, items_cause}
+use Rattle.session.proofs.Sessions.{untouched, all_done, stopped_in, items_cause}
 use Rattle.session.proofs.running.run_items.Goals as goal
 
 pub returns-then-is_err-clause-ran : goal.returns-then-is_err-clause-ran
