@@ -5,8 +5,8 @@
 //! are which commands is said once, by `file_of` of `pool_model`: a step from line to line, over how many
 //! lines there were, the items that ended and the group that is open. `cuts` cuts a file into lines and a
 //! line into words, `words` reads numbers and blocks, `lines` says what a line by itself is, with its form
-//! judged before its ranges, `settings` the same of settings and prunes, `today` which of them are run, and `grammar` takes one line after the other, with what was read so far in a
-//! `Progress`, and counts. What the definition says of the items of every good file is a law of `laws`.
+//! judged before its ranges, `settings` the same of settings and prunes, and `grammar` takes one line after
+//! the other, with what was read so far in a `Progress`, and counts. What the definition says of the items of every good file is a law of `laws`.
 //!
 //! The whole file is read before any of it is done, so a bad file has no effect. Want of memory is an
 //! answer of its own, and never makes a file bad. A block that is one byte so many times stays that way.

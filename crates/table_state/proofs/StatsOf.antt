@@ -78,10 +78,13 @@ plain_slots : (image : Image) (table : TableState) (slots : List SlotRecord)
     → plain_in slots ≡ count_by (λ (p : Pointer). is_plain p.mark) (map (pointer_of image table) slots)
 plain_slots image table [] = refl
 plain_slots image table (slot ∷ slots) =
-    omega (arith, plain_slots image table slots,
-        sum_by-cons (λ (s : SlotRecord). cond (is_outside s.pointer) 1 0) slot slots,
-        sum_by-cons (λ (p : Pointer). cond (is_plain p.mark) 1 0) (pointer_of image table slot) (map (pointer_of image table) slots),
-        ap one (plain_alike slot.pointer.kind (found table slot.pointer.key) slot.pointer.place slot.pointer.birth))
+    omega (
+      arith,
+      plain_slots image table slots,
+      sum_by-cons (λ (s : SlotRecord). cond (is_outside s.pointer) 1 0) slot slots,
+      sum_by-cons (λ (p : Pointer). cond (is_plain p.mark) 1 0) (pointer_of image table slot) (map (pointer_of image table) slots),
+      ap one (plain_alike slot.pointer.kind (found table slot.pointer.key) slot.pointer.place slot.pointer.birth),
+    )
   where
     one : Bool → ℕ
     one b = cond b 1 0
