@@ -8,10 +8,21 @@ use std::alloc::{AllocError, Global};
 use std::process::Abort;
 use std::test::Fail;
 
-/// What is told of a file that is bad as a whole.
-const BAD: &str = "Bad { line: 0, kind: Form }";
+/// Reads a file of these bytes from a source that gives at most `piece` of them at a call, and whose calls of these
+/// numbers fail.
+fn read_bytes(
+    alloc: Global,
+    bytes: Vec<u8>,
+    piece: usize,
+    fails: &[u64],
+) -> Result<Result<CommandFile, FileFault>, AllocError>
+    requires { 0 < piece }
+{
+    let mut source = MemSource::new(bytes, piece, fails.to_vec(alloc)?);
+    Ok(read_file(alloc, &mut source))
+}
 
-/// Reads a file from a source that gives at most `piece` bytes at a call, and whose calls of these numbers fail.
+/// The same of a text.
 fn read(
     alloc: Global,
     text: &str,
@@ -20,9 +31,7 @@ fn read(
 ) -> Result<Result<CommandFile, FileFault>, AllocError>
     requires { 0 < piece }
 {
-    let bytes = text.as_bytes().to_vec(alloc)?;
-    let mut source = MemSource::new(bytes, piece, fails.to_vec(alloc)?);
-    Ok(read_file(alloc, &mut source))
+    read_bytes(alloc, text.as_bytes().to_vec(alloc)?, piece, fails)
 }
 
 /// Writes a number.
@@ -45,6 +54,31 @@ fn tell_write(text: &mut String, command: &Command, bytes: &[u8]) -> Result<(), 
     text.push_str("; ")
 }
 
+/// Writes a write of this byte, so many times.
+fn tell_repeat(
+    text: &mut String,
+    command: &Command,
+    byte: u8,
+    times: u32,
+) -> Result<(), AllocError> {
+    tell_number(text, command.lane as u64)?;
+    text.push_str(" write ")?;
+    tell_number(text, command.slot as u64)?;
+    text.push_str(" ")?;
+    tell_number(text, byte as u64)?;
+    text.push_str(" times ")?;
+    tell_number(text, times as u64)?;
+    text.push_str("; ")
+}
+
+/// The byte that a command writes so many times.
+fn repeat_of(command: &Command) -> Option<(u8, u32)> {
+    match command.verb {
+        Verb::Write(Payload::Repeat { byte, times }) => Some((byte, times)),
+        _ => None,
+    }
+}
+
 /// The bytes that a command writes, where they stand there one by one.
 fn bytes_of(command: &Command) -> Option<&[u8]> {
     match &command.verb {
@@ -55,6 +89,9 @@ fn bytes_of(command: &Command) -> Option<&[u8]> {
 
 /// Writes a command.
 fn tell_command(text: &mut String, command: &Command) -> Result<(), AllocError> {
+    if let Some((byte, times)) = repeat_of(command) {
+        return tell_repeat(text, command, byte, times);
+    }
     match bytes_of(command) {
         Some(bytes) => tell_write(text, command, bytes),
         None => text.push_str("another command; "),
@@ -91,9 +128,12 @@ fn told_items(alloc: Global, file: &CommandFile) -> Result<String, AllocError> {
     Ok(text)
 }
 
-/// A fault, as text.
+/// A fault, as text: of a bad file the line and what is wrong with it.
 fn told_fault(alloc: Global, fault: &FileFault) -> Result<String, AllocError> {
-    format!(in alloc; "{fault:?}")
+    match fault {
+        FileFault::Bad { line, kind } => format!(in alloc; "{line} {kind:?}"),
+        _ => format!(in alloc; "{fault:?}"),
+    }
 }
 
 /// What was read, as text.
@@ -176,7 +216,7 @@ fn sizes(alloc: Global, answer: &Result<CommandFile, FileFault>) -> Result<Strin
 }
 
 /// Sees what is read of a text in pieces of so many bytes. A failure tells the text and the pieces.
-fn assert_read(
+pub fn assert_read(
     rt: &impl Abort,
     alloc: Global,
     text: &str,
@@ -191,8 +231,17 @@ fn assert_read(
 }
 
 /// Files, and what is read of them.
-const FILES: [(&str, &str); 9] = [
+const FILES: [(&str, &str); 15] = [
     ("", ""),
+    ("\n", ""),
+    ("#", ""),
+    ("stat", "stat. "),
+    ("\n# group 1\nstat\n\n#\n#end\nimport\n\n", "stat. import. "),
+    ("# \t\r \u{a0} \0 \u{fffd} line\nstat\n", "stat. "),
+    (
+        "group 2\n\n0 write 1 aBCd\n# in it\n0 write 2 Ff*1\n0 write 3 00*4096\nend",
+        "group 2: 0 write 1 [171, 205]; 0 write 2 255 times 1; 0 write 3 0 times 4096; end. ",
+    ),
     ("stat\n", "stat. "),
     ("import\n", "import. "),
     (
@@ -228,93 +277,6 @@ fn a_file_gives_its_items_in_any_pieces(rt: HostRuntime) -> Result<(), Fail> {
     Ok(())
 }
 
-/// Files with a line that may not stand where it is.
-const MISPLACED: [&str; 33] = [
-    "\n",
-    "\nstat\n",
-    "stat\n\n",
-    "stat",
-    "stat\nstat",
-    "import",
-    "stat\nx",
-    "hello\n",
-    "create\n",
-    "Stat\n",
-    "stats\n",
-    "stat \n",
-    " stat\n",
-    "stat 2\n",
-    "import 2\n",
-    "stat\r\n",
-    "# a note\nstat\n",
-    "end\n",
-    "stat\nend\n",
-    "0 write 1 61\n",
-    "group 1\nend\n0 write 1 61\n",
-    "group 1",
-    "group 1\n",
-    "group 1\n0 write 1 61\n",
-    "group 1\n0 write 1 61\nend",
-    "group 1\n0 write 1 61\nstat\n",
-    "group 1\n0 write 1 61\nstat\nend\n",
-    "group 1\nimport\nend\n",
-    "group 1\ngroup 2\nend\n",
-    "group 1\ngroup 2\nend\nend\n",
-    "group 1\nend\nend\n",
-    "group 1\n\n0 write 1 61\nend\n",
-    "group 1\r\n0 write 1 61\r\nend\r\nstat\r\n",
-];
-
-#[test]
-fn a_line_that_may_not_stand_where_it_is_makes_a_file_bad(rt: HostRuntime) -> Result<(), Fail> {
-    for text in MISPLACED {
-        assert_read(&rt, rt.alloc(), text, 4096, BAD)?;
-    }
-    Ok(())
-}
-
-/// Files with a word out of its form.
-const MISSPELT: [&str; 30] = [
-    "group 1\n0 write 1 6A\nend\n",
-    "group 1\n0 write 1 6g\nend\n",
-    "group 1\n0 write 1 616\nend\n",
-    "group 1\n0 write 1 \nend\n",
-    "group 1\n0 write 1\nend\n",
-    "group 1\n0 write 1 61 62\nend\n",
-    "group 1\n0 write 1 61 \nend\n",
-    "group 1\n0  write 1 61\nend\n",
-    "group 1\n0 write  1 61\nend\n",
-    "group 1\n 0 write 1 61\nend\n",
-    "group 1\n0 write 65536 61\nend\n",
-    "group 1\n0 write 01 61\nend\n",
-    "group 1\n0 write 00 61\nend\n",
-    "group 1\n0 write +1 61\nend\n",
-    "group 1\n0 write 1x 61\nend\n",
-    "group 1\n0 write 18446744073709551617 61\nend\n",
-    "group 1\n1 write 1 61\nend\n",
-    "group 1\n00 write 1 61\nend\n",
-    "group 1\n0 read 1\nend\n",
-    "group 1\n0 erase 1 61\nend\n",
-    "group 1\n0 write 1 61*2\nend\n",
-    "group 1099511627776\nend\n",
-    "group 01\nend\n",
-    "group\nend\n",
-    "group \nend\n",
-    "group  1\nend\n",
-    "group 1 \nend\n",
-    "group 1 2\nend\n",
-    "group 1\nend \n",
-    "prune 1\nend\n",
-];
-
-#[test]
-fn a_word_out_of_its_form_makes_a_file_bad(rt: HostRuntime) -> Result<(), Fail> {
-    for text in MISSPELT {
-        assert_read(&rt, rt.alloc(), text, 4096, BAD)?;
-    }
-    Ok(())
-}
-
 /// Sees the sizes of what is read of a text.
 fn assert_sizes(
     rt: &impl Abort,
@@ -343,13 +305,14 @@ fn assert_lengths(
 }
 
 #[test]
-fn a_group_may_have_a_thousand_commands_and_no_more(rt: HostRuntime) -> Result<(), Fail> {
+fn a_group_may_have_65536_commands_and_no_more(rt: HostRuntime) -> Result<(), Fail> {
     let alloc = rt.alloc();
-    let many = vec![in alloc; 1u32; 1_001]?;
-    let fits = many.split_at(1_000).0;
-    let want = "2 items, 1000 commands, 1000 bytes";
-    assert_lengths(&rt, alloc, "a thousand", 1, fits, want)?;
-    assert_lengths(&rt, alloc, "one more", 1, many.as_slice(), BAD)?;
+    let many = vec![in alloc; 1u32; 65_537]?;
+    let fits = many.split_at(65_536).0;
+    let want = "2 items, 65536 commands, 65536 bytes";
+    assert_lengths(&rt, alloc, "as many as may be", 1, fits, want)?;
+    // The group's line is the first, so its command 65,537 is line 65,538.
+    assert_lengths(&rt, alloc, "one more", 1, many.as_slice(), "65538 Many")?;
     Ok(())
 }
 
@@ -358,56 +321,81 @@ fn a_block_may_have_a_page_and_no_more(rt: HostRuntime) -> Result<(), Fail> {
     let alloc = rt.alloc();
     let want = "2 items, 1 commands, 4096 bytes";
     assert_lengths(&rt, alloc, "a page", 1, &[4_096], want)?;
-    assert_lengths(&rt, alloc, "one byte more", 1, &[4_097], BAD)?;
+    assert_lengths(&rt, alloc, "one byte more", 1, &[4_097], "2 Range")?;
     Ok(())
 }
 
-/// Lengths of blocks whose group at a moment of one digit makes a file of 1,048,576 bytes.
-fn longest(alloc: Global) -> Result<Vec<u32>, AllocError> {
-    let mut lengths = vec![in alloc; 4_096u32; 127]?;
-    lengths.push(3_377)?;
-    lengths.push(1)?;
-    Ok(lengths)
+/// Sees what is read of a file of so many times this byte.
+fn assert_filled(
+    rt: &impl Abort,
+    alloc: Global,
+    what: &str,
+    byte: u8,
+    count: usize,
+    want: &str,
+) -> Result<(), AllocError> {
+    let bytes = vec![in alloc; byte; count]?;
+    let answer = read_bytes(alloc, bytes, 65_536, &[])?;
+    let sizes = sizes(alloc, &answer)?;
+    assert_same(rt, what, sizes.as_str(), want);
+    Ok(())
 }
 
 #[test]
-fn a_file_may_have_a_mebibyte_and_no_more(rt: HostRuntime) -> Result<(), Fail> {
-    let alloc = rt.alloc();
-    let lengths = longest(alloc)?;
-    let lengths = lengths.as_slice();
-    let want = "2 items, 129 commands, 523570 bytes";
-    assert_lengths(&rt, alloc, "a mebibyte", 1, lengths, want)?;
-    assert_lengths(&rt, alloc, "one byte more", 10, lengths, BAD)?;
+fn a_file_may_have_64_mebibytes(rt: HostRuntime) -> Result<(), Fail> {
+    let none = "0 items, 0 commands, 0 bytes";
+    assert_filled(&rt, rt.alloc(), "a comment", b'#', 67_108_864, none)?;
+    Ok(())
+}
+
+#[test]
+fn a_file_may_not_have_a_byte_more(rt: HostRuntime) -> Result<(), Fail> {
+    // The line is bad too, but the size is judged before all lines.
+    assert_filled(&rt, rt.alloc(), "a line", b'x', 67_108_865, "0 Size")?;
     Ok(())
 }
 
 /// How many times `stat` stands there, what stands behind it, and how large the file is.
-const MANY: [(&str, u32, &str, &str); 6] = [
+const MANY: [(&str, u32, &str, &str); 10] = [
     (
         "all of them stat",
         10_000,
         "",
         "10000 items, 0 commands, 0 bytes",
     ),
-    ("one stat more", 10_001, "", BAD),
+    ("one stat more", 10_001, "", "10001 Many"),
     (
         "the last an import",
         9_999,
         "import\n",
         "10000 items, 0 commands, 0 bytes",
     ),
-    ("one import more", 10_000, "import\n", BAD),
+    ("one import more", 10_000, "import\n", "10001 Many"),
     (
         "the last a group",
         9_999,
         "group 1\n0 write 1 61\nend\n",
         "10000 items, 1 commands, 1 bytes",
     ),
+    ("one group more", 10_000, "group 1\nend\n", "10001 Many"),
     (
-        "one group more",
+        "one stat behind the last group",
+        9_999,
+        "group 1\nend\n\nstat\n",
+        "10003 Many",
+    ),
+    ("no line there", 10_000, "hello\n", "10001 Form"),
+    (
+        "out of range there",
         10_000,
-        "group 1\n0 write 1 61\nend\n",
-        BAD,
+        "group 1099511627776\n",
+        "10001 Range",
+    ),
+    (
+        "nothing more",
+        10_000,
+        "\n# stat\n",
+        "10000 items, 0 commands, 0 bytes",
     ),
 ];
 
