@@ -10,12 +10,6 @@ use std::alloc::Global;
 use std::process::Abort;
 use std::test::Fail;
 
-/// What a session answers to a file that it can't read.
-const BAD_FILE: Status = Status::BadFile {
-    line: 0,
-    kind: BadKind::Form,
-};
-
 /// Sees that a session ended so before it called the disk or the sink, of which the first call fails.
 fn assert_refused(rt: &impl Abort, ended: Ended, disk: &MemDisk, status: Status) {
     let mut ended = ended;
@@ -26,64 +20,50 @@ fn assert_refused(rt: &impl Abort, ended: Ended, disk: &MemDisk, status: Status)
     assert_same(rt, "the sink's first call", first, Err(Failed));
 }
 
-/// Sees that a file is refused before anything is done.
-fn assert_bad(rt: &impl Abort, alloc: Global, text: &str) -> Result<(), Fail> {
+/// Sees that a file is refused for this line before anything is done.
+fn assert_bad(
+    rt: &impl Abort,
+    alloc: Global,
+    text: &str,
+    line: u64,
+    kind: BadKind,
+) -> Result<(), Fail> {
     let mut disk = small_disk(alloc)?;
     let mut input = source_of(alloc, text, 4096, &[])?;
     let out = sink_of(alloc, &[1])?;
     let ended = run_over(alloc, &Sha256Key, &[MAKE], &mut disk, &mut input, out)?;
-    assert_refused(rt, ended, &disk, BAD_FILE);
+    assert_refused(rt, ended, &disk, Status::BadFile { line, kind });
     Ok(())
 }
 
 #[test]
 fn a_malformed_file_does_nothing_and_writes_nothing(rt: HostRuntime) -> Result<(), Fail> {
-    for text in [
-        "\n",
-        "group 1\n0 write 1 61\nend\nstat",
-        "group 1\r\n0 write 1 61\r\nend\r\nstat\r\n",
-        "group 1\n0 write 1 6A\nend\nstat\n",
-        "group 1\n0 write 1 616\nend\nstat\n",
-        "group 1\n0 write 65536 61\nend\nstat\n",
-        "group 1\n0 write 01 61\nend\nstat\n",
-        "group 1099511627776\nend\n",
-        "group 1\n0 write 1 61\nstat\n",
-        "group 1\n0 write 1 61\n",
-        "stat\nimport\nstat\nx",
-        "stat\n\n",
-        "create\n",
-    ] {
-        assert_bad(&rt, rt.alloc(), text)?;
+    let rows = [
+        (
+            "group 1\r\n0 write 1 61\r\nend\r\nstat\r\n",
+            1,
+            BadKind::Form,
+        ),
+        ("group 1\n0 write 1 616\nend\nstat\n", 2, BadKind::Form),
+        ("group 1\n0 write 65536 61\nend\nstat\n", 2, BadKind::Range),
+        ("group 1\n0 write 01 61\nend\nstat\n", 2, BadKind::Form),
+        ("group 1099511627776\nend\n", 1, BadKind::Range),
+        ("group 1\n0 write 1 61\nstat\n", 3, BadKind::Form),
+        ("group 1\n0 write 1 61\n", 3, BadKind::Open),
+        ("stat\nimport\nstat\nx", 4, BadKind::Form),
+        ("create\n", 1, BadKind::Form),
+    ];
+    for (text, line, kind) in rows {
+        assert_bad(&rt, rt.alloc(), text, line, kind)?;
     }
     Ok(())
 }
 
-/// Sees that a file of such lengths is refused, which has so many bytes.
-fn assert_too_long(
-    rt: &impl Abort,
-    alloc: Global,
-    moment: u64,
-    lengths: &[u32],
-    size: usize,
-) -> Result<(), Fail> {
-    let text = file_of_lengths(alloc, moment, lengths)?;
-    assert_same(rt, "the file's length", text.len(), size);
-    assert_bad(rt, alloc, text.as_str())
-}
-
 #[test]
-fn a_file_past_a_limit_does_nothing_and_writes_nothing(rt: HostRuntime) -> Result<(), Fail> {
+fn a_block_past_a_page_does_nothing_and_writes_nothing(rt: HostRuntime) -> Result<(), Fail> {
     let alloc = rt.alloc();
-    // A block of one byte more than a block may have.
-    assert_too_long(&rt, alloc, 1, &[4_097], 8_222)?;
-    // One write more than a group may have.
-    let many = vec![in alloc; 1u32; 1_001]?;
-    assert_too_long(&rt, alloc, 1, many.as_slice(), 13_030)?;
-    // One byte more than a file may have, with lines that may stand in one.
-    let mut long = vec![in alloc; 4_096u32; 127]?;
-    long.push(3_377)?;
-    long.push(1)?;
-    assert_too_long(&rt, alloc, 10, long.as_slice(), 1_048_577)
+    let text = file_of_lengths(alloc, 1, &[4_097])?;
+    assert_bad(&rt, alloc, text.as_str(), 2, BadKind::Range)
 }
 
 /// Sees that a source was never called, of which the first call fails.

@@ -197,18 +197,52 @@ fn a_file_does_not_end_inside_a_group(rt: HostRuntime) -> Result<(), Fail> {
     Ok(())
 }
 
-/// Lines of settings and prunes, which are not run today.
-const NOT_RUN: [(&str, &str); 6] = [
-    ("quota 256\n", "1 Form"),
-    ("quota none\n", "1 Form"),
-    ("quota 18446744073709551616\n", "1 Form"),
-    ("mode 0 on\n", "1 Form"),
-    ("prune 1 age 1\n", "1 Form"),
-    ("stat\nprune 1 share 101\n", "2 Form"),
+/// Lines of settings.
+const SETTINGS: [(&str, &str); 16] = [
+    ("quota\n", "1 Form"),
+    ("quota \n", "1 Form"),
+    ("quota 01\n", "1 Form"),
+    ("quota -1\n", "1 Form"),
+    ("quota None\n", "1 Form"),
+    ("quota 1 2\n", "1 Form"),
+    ("quota 18446744073709551616\n", "1 Range"),
+    ("quota 18446744073709551616\nhello\n", "1 Range"),
+    ("mode 0\n", "1 Form"),
+    ("mode 0 On\n", "1 Form"),
+    ("mode 0 on on\n", "1 Form"),
+    ("mode x on\n", "1 Form"),
+    ("mode 16 maybe\n", "1 Form"),
+    ("mode 16 on\n", "1 Range"),
+    ("mode 18446744073709551616 off\n", "1 Range"),
+    ("group 1\nquota 5\nend\n", "2 Form"),
 ];
 
 #[test]
-fn settings_and_prunes_are_no_lines_today(rt: HostRuntime) -> Result<(), Fail> {
-    assert_bad(&rt, rt.alloc(), &NOT_RUN)?;
+fn a_setting_has_its_words_in_their_ranges(rt: HostRuntime) -> Result<(), Fail> {
+    assert_bad(&rt, rt.alloc(), &SETTINGS)?;
+    Ok(())
+}
+
+/// Lines of prunes.
+const PRUNES: [(&str, &str); 14] = [
+    ("prune\n", "1 Form"),
+    ("prune 1\n", "1 Form"),
+    ("prune 1 age\n", "1 Form"),
+    ("prune 1 share\n", "1 Form"),
+    ("prune 1 old 1\n", "1 Form"),
+    ("prune 01 age 1\n", "1 Form"),
+    ("prune 1 age 01\n", "1 Form"),
+    ("prune 1 age 1 1\n", "1 Form"),
+    ("prune x age 1000001\n", "1 Form"),
+    ("prune 1 age 1000001\n", "1 Range"),
+    ("prune 1 share 101\n", "1 Range"),
+    ("prune 1099511627776 age 1\n", "1 Range"),
+    ("stat\nprune 1 share 101\nhello\n", "2 Range"),
+    ("group 1\nprune 1 share 1\nend\n", "2 Form"),
+];
+
+#[test]
+fn a_prune_has_its_words_in_their_ranges(rt: HostRuntime) -> Result<(), Fail> {
+    assert_bad(&rt, rt.alloc(), &PRUNES)?;
     Ok(())
 }

@@ -3,7 +3,7 @@ ghost use Rattle.std.specs.Prelude.{◌<◌};
 use crate::comparing::{assert_same, assert_same_at};
 use cmd_file::{FileFault, read_file};
 use io_model::MemSource;
-use pool_model::{Command, CommandFile, Item, LanesGroup, Payload, Verb};
+use pool_model::{Command, CommandFile, Item, LanesGroup, Mode, Payload, PruneRule, Verb};
 use std::alloc::{AllocError, Global};
 use std::process::Abort;
 use std::test::Fail;
@@ -109,13 +109,37 @@ fn tell_group(text: &mut String, group: &LanesGroup) -> Result<(), AllocError> {
     text.push_str("end. ")
 }
 
+/// Writes a quota.
+fn tell_quota(text: &mut String, limit: Option<u64>) -> Result<(), AllocError> {
+    match limit {
+        Some(bytes) => write!(text, "quota {bytes}. "),
+        None => text.push_str("quota none. "),
+    }
+}
+
+/// Writes the mode of a lane.
+fn tell_mode(text: &mut String, lane: u32, mode: Mode) -> Result<(), AllocError> {
+    write!(text, "mode {lane} {mode:?}. ")
+}
+
+/// Writes a prune.
+fn tell_prune(text: &mut String, moment: u64, rule: PruneRule) -> Result<(), AllocError> {
+    match rule {
+        PruneRule::Age(days) => write!(text, "prune {moment} age {days}. "),
+        PruneRule::Share(share) => write!(text, "prune {moment} share {share}. "),
+    }
+}
+
 /// Writes an item.
 fn tell_item(text: &mut String, item: &Item) -> Result<(), AllocError> {
     match item {
         Item::Lanes(group) => tell_group(text, group),
         Item::Stat => text.push_str("stat. "),
         Item::Import => text.push_str("import. "),
-        _ => text.push_str("another item. "),
+        Item::Quota(limit) => tell_quota(text, *limit),
+        Item::SetMode { lane, mode } => tell_mode(text, *lane, *mode),
+        Item::Prune { moment, rule } => tell_prune(text, *moment, *rule),
+        Item::Create => text.push_str("create. "),
     }
 }
 
@@ -302,6 +326,21 @@ fn assert_lengths(
 ) -> Result<(), AllocError> {
     let text = file_of_lengths(alloc, moment, lengths)?;
     assert_sizes(rt, alloc, what, text.as_str(), want)
+}
+
+#[test]
+fn settings_and_prunes_are_items(rt: HostRuntime) -> Result<(), Fail> {
+    let text =
+        "quota 18446744073709551615\nquota none\nquota 0\nmode 15 verify\nmode 0 off\nmode 3 on\n";
+    let want =
+        "quota 18446744073709551615. quota none. quota 0. mode 15 Verify. mode 0 Off. mode 3 On. ";
+    assert_read(&rt, rt.alloc(), text, 4096, want)?;
+    let text =
+        "prune 1099511627775 age 1000000\nprune 0 share 100\nprune 7 age 0\nprune 7 share 0\n";
+    let want =
+        "prune 1099511627775 age 1000000. prune 0 share 100. prune 7 age 0. prune 7 share 0. ";
+    assert_read(&rt, rt.alloc(), text, 4096, want)?;
+    Ok(())
 }
 
 #[test]
