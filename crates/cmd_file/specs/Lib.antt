@@ -4,3 +4,4 @@ pub mod Items
 pub mod Progress
 pub mod Reading
 pub mod FileReads
+pub mod Words

@@ -1,6 +1,6 @@
-ghost use Rattle.std.specs.Prelude.{◌≡◌, ◌<◌, ◌==◌, ◌∷◌, length, IfSome, option_copied};
+ghost use Rattle.std.specs.Prelude.{◌≡◌, ◌<◌, ◌==◌, ◌∷◌, length, IfSome, IfNone, option_copied};
 ghost use Rattle.std.specs.List.{slice_split};
-ghost use Rattle.pool_model.specs.File.{is_line_feed, is_space};
+ghost use Rattle.pool_model.specs.File.{is_line_feed, is_space, lines_of};
 ghost use Rattle.cmd_file.specs.Cuts.{pieces_left, IsWords};
 
 /// What stands before the first `at`, and what stands behind it if there is one.
@@ -8,6 +8,7 @@ fn cut(bytes: &[u8], at: u8) -> (&[u8], Option<&[u8]>)
     ensures pieces { slice_split (λ byte. byte == at) bytes.now
         ≡ result.0.now ∷ pieces_left (λ byte. byte == at) (option_copied result.1) }
     ensures shorter { IfSome result.1 (λ rest. length rest.now < length bytes.now) }
+    ensures whole { IfNone result.1 (result.0.now ≡ bytes.now) }
 {
     match bytes.iter().position(|&byte| byte == at) {
         Some(i) => (&bytes[..i], Some(&bytes[i + 1..])),
@@ -15,13 +16,17 @@ fn cut(bytes: &[u8], at: u8) -> (&[u8], Option<&[u8]>)
     }
 }
 
-/// The first line, and what stands behind its line feed if it has one.
-pub fn split_line(text: &[u8]) -> (&[u8], Option<&[u8]>)
-    ensures lines { slice_split is_line_feed text.now
-        ≡ result.0.now ∷ pieces_left is_line_feed (option_copied result.1) }
-    ensures shorter { IfSome result.1 (λ rest. length rest.now < length text.now) }
+/// The first line of a text that isn't empty, and what stands behind its line feed.
+pub fn split_line(text: &[u8]) -> (&[u8], &[u8])
+    requires some { 0 < length text.now }
+    ensures lines { lines_of (slice_split is_line_feed text.now) ≡ result.0.now ∷ lines_of (slice_split is_line_feed result.1.now) }
+    ensures shorter { length result.1.now < length text.now }
 {
-    cut(text, b'\n')
+    let (line, more) = cut(text, b'\n');
+    match more {
+        Some(more) => (line, more),
+        None => (text, &text[text.len()..]),
+    }
 }
 
 /// The words of a line, each one space from the next. No line of a file has more than four.

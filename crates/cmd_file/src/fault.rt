@@ -1,5 +1,7 @@
-ghost use Rattle.std.specs.Prelude.{◌≡◌};
+ghost use Rattle.std.specs.Prelude.{◌≡◌, ℕ};
+ghost use Rattle.cmd_file.specs.Faults.{fault_at};
 ghost use Rattle.cmd_file.specs.declared.fault.FileFault.TheVariants.{Memory};
+ghost use Rattle.cmd_file.specs.declared.fault.LineFault.TheVariants.{Memory as NoMemory};
 
 use io_model::ReadFault;
 use pool_model::BadKind;
@@ -20,11 +22,33 @@ pub enum FileFault {
     Memory,
 }
 
-/// A file that is bad as a whole, which every bad file is until lines are judged one by one.
-pub const BAD_FILE: FileFault = FileFault::Bad {
-    line: 0,
-    kind: BadKind::Form,
-};
+/// Why a line isn't taken.
+#[derive(Clone, Copy)]
+pub enum LineFault {
+    /// What is wrong with it.
+    Bad(BadKind),
+    /// There was no memory for it.
+    Memory,
+}
+
+/// None of the lines that may stand there.
+pub const FORM: LineFault = LineFault::Bad(BadKind::Form);
+
+/// A number or a content's length is out of its range.
+pub const RANGE: LineFault = LineFault::Bad(BadKind::Range);
+
+/// An item, a command or a read too many.
+pub const MANY: LineFault = LineFault::Bad(BadKind::Many);
+
+/// What the fault of this line, counted from 1, is to the whole file.
+pub fn at_line(line: u64, fault: LineFault) -> FileFault
+    ensures { result ≡ fault_at line fault }
+{
+    match fault {
+        LineFault::Bad(kind) => FileFault::Bad { line, kind },
+        LineFault::Memory => FileFault::Memory,
+    }
+}
 
 impl From<ReadFault> for FileFault {
     ghost use Rattle.cmd_file.specs.Faults.{fault_of_read};
@@ -39,18 +63,18 @@ impl From<ReadFault> for FileFault {
     }
 }
 
-impl From<AllocError> for FileFault {
-    ghost from_gives = { λ _ fault. fault ≡ Memory };
+impl From<AllocError> for LineFault {
+    ghost from_gives = { λ _ fault. fault ≡ NoMemory };
 
     fn from(_: AllocError) -> Self {
-        FileFault::Memory
+        LineFault::Memory
     }
 }
 
-impl<T: Drop> From<AllocFailed<T>> for FileFault {
-    ghost from_gives = { λ _ fault. fault ≡ Memory };
+impl<T: Drop> From<AllocFailed<T>> for LineFault {
+    ghost from_gives = { λ _ fault. fault ≡ NoMemory };
 
     fn from(_: AllocFailed<T>) -> Self {
-        FileFault::Memory
+        LineFault::Memory
     }
 }

@@ -1,178 +1,242 @@
-ghost use Rattle.std.specs.Prelude.{◌≡◌, map, Some};
-ghost use Rattle.pool_model.specs.Mirrors.{task_of, part_of};
+ghost use Rattle.std.specs.Prelude.{◌≡◌, ◌<◌, ◌≤◌, ◌+◌, ◌^◌, ◌&&◌, ◌++◌, ◌∷◌, [], nat_le, if◌then◌else◌, fold, length, map, IfOk, Some, None, Ok};
 ghost use Rattle.std.specs.List.{slice_split};
-ghost use Rattle.pool_model.specs.File.{is_line_feed, moment_in, task_in, with_part, read_item, read_command, read_line, ended, first_progress, parts_in};
-ghost use Rattle.cmd_file.specs.Faults.{Gives, Parses};
-ghost use Rattle.cmd_file.specs.Progress.{open_group, progress_of};
+ghost use Rattle.pool_model.specs.Mirrors.{part_of};
+ghost use Rattle.pool_model.specs.File.{is_line_feed, is_space, does, ends, step_line, item_line, is_read, tested, judged, read_line, after_line, first_progress, lines_of, file_limit, read_limit};
+ghost use Rattle.pool_model.specs.File.{ended as ended_by};
+ghost use Rattle.cmd_file.specs.Faults.{Gives, Tells, Parses};
+ghost use Rattle.cmd_file.specs.Progress.{deed_of, start_of, open_group, progress_of, with_open};
 
-use crate::cuts::{Words, split_line, words_of};
-use crate::fault::{BAD_FILE, FileFault};
-use crate::progress::{OpenGroup, Progress};
-use crate::words::{block_in, number_in};
-use pool_model::{Command, CommandFile, CommandList, Item, ItemList, LanesGroup, Payload, Verb};
+use crate::cuts::split_line;
+use crate::fault::{FileFault, LineFault, MANY, at_line};
+use crate::lines::{Start, Step, is_skipped, item_in, step_in};
+use crate::progress::{Done, OpenGroup, Progress};
+use pool_model::{BadKind, Command, CommandFile, CommandList, Item, ItemList, LanesGroup, Verb};
 use std::alloc::Global;
 
 /// The most bytes that a file has.
-pub const FILE_LIMIT: u64 = 1_048_576;
+pub const FILE_LIMIT: u64 = 67_108_864;
 
 /// The most items that a file has.
 const ITEM_LIMIT: usize = 10_000;
 
+/// The most reads that a file has.
+const READ_LIMIT: u64 = 262_144;
+
 /// The most commands that a group has.
-const COMMAND_LIMIT: usize = 1_000;
-
-/// Moments, in seconds, are below this number.
-const MOMENT_LIMIT: u64 = 1 << 40;
-
-/// Slots are below this number.
-const SLOT_LIMIT: u64 = 65_536;
-
-/// The moment of a line `group T`.
-fn moment_in(line: &[u8]) -> Option<u64>
-    ensures { result ≡ moment_in line.now }
-{
-    let Words::Two(verb, moment) = words_of(line) else {
-        return None;
-    };
-    if verb != b"group".as_slice() {
-        return None;
-    }
-    number_in(MOMENT_LIMIT, moment)
-}
-
-/// The command of a line `0 write S B`.
-fn command_in(alloc: Global, line: &[u8]) -> Result<Command, FileFault>
-    ensures { Gives task_of result (task_in line.now) }
-{
-    let Words::Four(lane, verb, slot, block) = words_of(line) else {
-        return Err(BAD_FILE);
-    };
-    if lane != b"0".as_slice() {
-        return Err(BAD_FILE);
-    }
-    if verb != b"write".as_slice() {
-        return Err(BAD_FILE);
-    }
-    let Some(slot) = number_in(SLOT_LIMIT, slot) else {
-        return Err(BAD_FILE);
-    };
-    let block = block_in(alloc, block)?;
-    Ok(Command {
-        lane: 0,
-        slot: slot as u32,
-        verb: Verb::Write(Payload::Bytes(block)),
-    })
-}
+const COMMAND_LIMIT: usize = 65_536;
 
 /// These items and one more, with no group open.
-fn with_item(items: Vec<Item>, item: Item) -> Result<Progress, FileFault>
-    ensures { Gives progress_of result
-        (Some (with_part (map part_of items.items) (part_of item))) }
+fn with_item(done: Done, item: Item) -> Result<Progress, LineFault>
+    ensures { Gives progress_of result (Ok (record (with_open done None) {
+      parts = map part_of done.items.items ++ part_of item ∷ [];
+    })) }
 {
-    let mut items = items;
+    let Done {
+        lines,
+        mut items,
+        reads,
+    } = done;
     items.push(item)?;
-    Ok(Progress { items, group: None })
-}
-
-/// What is read once these items are, and then a line that is an item or begins one.
-fn read_item(alloc: Global, items: Vec<Item>, line: &[u8]) -> Result<Progress, FileFault>
-    ensures { Gives progress_of result (read_item (map part_of items.items) line.now) }
-{
-    if line == b"stat".as_slice() {
-        return with_item(items, Item::Stat);
-    }
-    if line == b"import".as_slice() {
-        return with_item(items, Item::Import);
-    }
-    let Some(moment) = moment_in(line) else {
-        return Err(BAD_FILE);
-    };
-    let commands = Vec::new(alloc);
     Ok(Progress {
-        items,
-        group: Some(OpenGroup { moment, commands }),
+        done: Done {
+            lines,
+            items,
+            reads,
+        },
+        group: None,
     })
 }
 
-/// What is read once these items and a group's commands are, and then a line that is a further command or
-/// the group's end.
-fn read_command(
-    alloc: Global,
-    items: Vec<Item>,
-    group: OpenGroup,
-    line: &[u8],
-) -> Result<Progress, FileFault>
+/// What is read once these items are, and then a good line that is an item or begins a group.
+fn with_start(alloc: Global, done: Done, start: Start) -> Result<Progress, LineFault>
+    ensures { Gives progress_of result (judged (with_open done None) (Ok (start_of start))) }
+{
+    if done.items.len() >= ITEM_LIMIT {
+        return Err(MANY);
+    }
+    match start {
+        Start::Group(moment) => Ok(Progress {
+            done,
+            group: Some(OpenGroup {
+                moment,
+                commands: Vec::new(alloc),
+            }),
+        }),
+        Start::Item(item) => with_item(done, item),
+    }
+}
+
+/// What is read once these items are, and then a line.
+fn read_item(alloc: Global, done: Done, line: &[u8]) -> Result<Progress, LineFault>
     ensures { Gives progress_of result
-        (read_command (map part_of items.items) (open_group group) line.now) }
+        (judged (with_open done None) (tested (item_line (slice_split is_space line.now)))) }
+{
+    let start = item_in(line)?;
+    with_start(alloc, done, start)
+}
+
+fn is_read(verb: &Verb) -> bool
+    ensures { result ≡ is_read (deed_of verb.now) }
+{
+    matches!(verb, Verb::Read)
+}
+
+/// How many reads there are with this command, or none where it is a read too many.
+fn reads_with(reads: u64, verb: &Verb) -> Option<u64>
+    ensures { result ≡ (if is_read (deed_of verb.now) && nat_le read_limit reads then None
+        else Some (if is_read (deed_of verb.now) then reads + 1 else reads)) }
+{
+    if !is_read(verb) {
+        return Some(reads);
+    }
+    if reads >= READ_LIMIT {
+        return None;
+    }
+    Some(reads + 1)
+}
+
+/// What is read once these items and a group's commands are, and then a good command.
+fn with_command(done: Done, group: OpenGroup, command: Command) -> Result<Progress, LineFault>
+    ensures { Gives progress_of result (judged (with_open done (Some (open_group group)))
+        (Ok (does command.lane command.slot (deed_of command.verb)))) }
 {
     let OpenGroup {
         moment,
         mut commands,
     } = group;
-    if line == b"end".as_slice() {
-        let commands = CommandList::from_vec(commands);
-        return with_item(items, Item::Lanes(LanesGroup { moment, commands }));
-    }
+    let Done {
+        lines,
+        items,
+        reads,
+    } = done;
     if commands.len() >= COMMAND_LIMIT {
-        return Err(BAD_FILE);
+        return Err(MANY);
     }
-    let command = command_in(alloc, line)?;
+    let Some(reads) = reads_with(reads, &command.verb) else {
+        return Err(MANY);
+    };
     commands.push(command)?;
     Ok(Progress {
-        items,
+        done: Done {
+            lines,
+            items,
+            reads,
+        },
         group: Some(OpenGroup { moment, commands }),
     })
 }
 
-/// What is read once a line is, behind those that were read before.
-fn read_line(alloc: Global, progress: Progress, line: &[u8]) -> Result<Progress, FileFault>
-    ensures { Gives progress_of result (read_line (progress_of progress) line.now) }
+/// These items and a group that ends.
+fn with_group(done: Done, group: OpenGroup) -> Result<Progress, LineFault>
+    ensures { Gives progress_of result (judged (with_open done (Some (open_group group))) (Ok ends)) }
 {
-    let Progress { items, group } = progress;
-    if let Some(group) = group {
-        return read_command(alloc, items, group, line);
-    }
-    if items.len() >= ITEM_LIMIT {
-        return Err(BAD_FILE);
-    }
-    read_item(alloc, items, line)
+    let OpenGroup { moment, commands } = group;
+    let commands = CommandList::from_vec(commands);
+    with_item(done, Item::Lanes(LanesGroup { moment, commands }))
 }
 
-/// The command file of what was read, where behind the last line feed no more than this is left.
-fn ended(progress: Progress, behind: &[u8]) -> Result<CommandFile, FileFault>
-    ensures { Gives (λ file. map part_of file.items.items) result
-        (ended (progress_of progress).parts (progress_of progress).group behind.now) }
+/// What is read once these items and a group's commands are, and then a line.
+fn read_step(
+    alloc: Global,
+    done: Done,
+    group: OpenGroup,
+    line: &[u8],
+) -> Result<Progress, LineFault>
+    ensures { Gives progress_of result
+        (judged (with_open done (Some (open_group group))) (tested (step_line (slice_split is_space line.now)))) }
 {
-    let Progress { items, group } = progress;
-    if group.is_some() {
-        return Err(BAD_FILE);
+    let step = step_in(alloc, line)?;
+    match step {
+        Step::Command(command) => with_command(done, group, command),
+        Step::End => with_group(done, group),
     }
-    if !behind.is_empty() {
-        return Err(BAD_FILE);
+}
+
+/// What is read once a line is, behind those that were read before.
+fn read_line(alloc: Global, progress: Progress, line: &[u8]) -> Result<Progress, LineFault>
+    ensures { Gives progress_of result (read_line (progress_of progress) line.now) }
+{
+    if is_skipped(line) {
+        return Ok(progress);
+    }
+    let Progress { done, group } = progress;
+    match group {
+        Some(group) => read_step(alloc, done, group, line),
+        None => read_item(alloc, done, line),
+    }
+}
+
+/// So much was read, of so many lines.
+fn counted(lines: u64, progress: Progress) -> Progress
+    ensures { progress_of result ≡ record (progress_of progress) { lines = lines } }
+{
+    let Progress { done, group } = progress;
+    let Done {
+        lines: _,
+        items,
+        reads,
+    } = done;
+    Progress {
+        done: Done {
+            lines,
+            items,
+            reads,
+        },
+        group,
+    }
+}
+
+/// What is read with a further line of a file, behind lines of which none is bad.
+fn after_line(alloc: Global, progress: Progress, line: &[u8]) -> Result<Progress, FileFault>
+    requires few { progress.done.lines < 2 ^ 63 }
+    ensures read { Tells progress_of result (after_line (Ok (progress_of progress)) line.now) }
+    ensures number { IfOk result (λ next. next.done.lines ≡ progress.done.lines + 1) }
+{
+    let number = progress.done.lines + 1;
+    match read_line(alloc, progress, line) {
+        Ok(next) => Ok(counted(number, next)),
+        Err(fault) => Err(at_line(number, fault)),
+    }
+}
+
+/// The command file of what was read of all lines.
+fn ended(progress: Progress) -> Result<CommandFile, FileFault>
+    requires few { progress.done.lines < 2 ^ 63 }
+    ensures { Tells (λ file. map part_of file.items.items) result (ended_by (Ok (progress_of progress))) }
+{
+    let Progress { done, group } = progress;
+    if group.is_some() {
+        return Err(FileFault::Bad {
+            line: done.lines + 1,
+            kind: BadKind::Open,
+        });
     }
     Ok(CommandFile {
-        items: ItemList::from_vec(items),
+        items: ItemList::from_vec(done.items),
     })
 }
 
 /// The command file of these lines.
 fn read_lines(alloc: Global, text: &[u8]) -> Result<CommandFile, FileFault>
-    ensures { Gives (λ file. map part_of file.items.items) result
-        (parts_in (Some first_progress) (slice_split is_line_feed text.now)) }
+    requires few { length text.now ≤ file_limit }
+    ensures { Tells (λ file. map part_of file.items.items) result
+        (ended_by (fold after_line (Ok first_progress) (lines_of (slice_split is_line_feed text.now)))) }
 {
     let mut progress = Progress {
-        items: Vec::new(alloc),
+        done: Done {
+            lines: 0,
+            items: Vec::new(alloc),
+            reads: 0,
+        },
         group: None,
     };
     let mut rest = text;
-    'lines: loop {
+    'lines: while !rest.is_empty() {
         let (line, more) = split_line(rest);
-        let Some(more) = more else {
-            return ended(progress, line);
-        };
-        progress = read_line(alloc, progress, line)?;
+        progress = after_line(alloc, progress, line)?;
         rest = more;
     }
+    ended(progress)
 }
 
 /// The command file that some bytes are.
@@ -180,7 +244,10 @@ pub fn parse(alloc: Global, bytes: &[u8]) -> Result<CommandFile, FileFault>
     ensures { Parses bytes.now result }
 {
     if bytes.len() as u64 > FILE_LIMIT {
-        return Err(BAD_FILE);
+        return Err(FileFault::Bad {
+            line: 0,
+            kind: BadKind::Size,
+        });
     }
     read_lines(alloc, bytes)
 }

@@ -1,16 +1,16 @@
 //! The reader of the command file.
 //!
 //! `read_file` reads a source to its end, or one byte past the most that a file may have, and answers
-//! the command file that the bytes are, or the line that is bad and what is wrong with it. Which bytes
-//! are which commands is said once, by `file_of` of `pool_model`: a step from line to line, over the
-//! items that ended and the group that is open. Each step of that definition is a function here, with
-//! the step for its contract: `cuts` cuts a file into lines and a line into words, `words` reads
-//! numbers and blocks, and `grammar` takes one line after the other, with what was read so far in a
-//! `Progress`. What the definition says of the items of every good file is a law of `laws`.
+//! the command file that the bytes are, or the first bad line and what is wrong with it. Which bytes
+//! are which commands is said once, by `file_of` of `pool_model`: a step from line to line, over how many
+//! lines there were, the items that ended and the group that is open. `cuts` cuts a file into lines and a
+//! line into words, `words` reads numbers and blocks, `lines` says what a line by itself is, with its form
+//! judged before its ranges, `settings` the same of settings and prunes, `today` which of them are run, and `grammar` takes one line after the other, with what was read so far in a
+//! `Progress`, and counts. What the definition says of the items of every good file is a law of `laws`.
 //!
 //! The whole file is read before any of it is done, so a bad file has no effect. Want of memory is an
-//! answer of its own, and never makes a file bad. The session takes its commands from here; no other
-//! crate looks at the bytes of a file.
+//! answer of its own, and never makes a file bad. A block that is one byte so many times stays that way.
+//! The session takes its commands from here; no other crate looks at the bytes of a file.
 #![tactic(auto)]
 
 ghost use Rattle.std.specs.Prelude.{◌+◌, ◌≤◌};
@@ -22,7 +22,10 @@ mod cuts;
 mod fault;
 mod grammar;
 mod laws;
+mod lines;
 mod progress;
+mod settings;
+mod today;
 mod words;
 
 use crate::grammar::{FILE_LIMIT, parse};

@@ -8,9 +8,18 @@ pub struct OpenGroup {
     pub commands: Vec<Command>,
 }
 
-/// What was read of a file so far: the items that ended, in order, and the group that is open, if one is.
+/// What was read of a file without the group that is open: how many lines, the items that ended, in order, and
+/// how many reads there were.
+#[derive(Drop)]
+pub struct Done {
+    pub lines: u64,
+    pub items: Vec<Item>,
+    pub reads: u64,
+}
+
+/// What was read of a file so far, with the group that is open, if one is.
 #[derive(Drop)]
 pub struct Progress {
-    pub items: Vec<Item>,
+    pub done: Done,
     pub group: Option<OpenGroup>,
 }

@@ -5,11 +5,24 @@ use Rattle.std.proofs.Common.{refl, ap, inl, inr, rules, arith}
 use Rattle.pool_model.proofs.OnLiterals.{pool_on_literals}
 use Rattle.ddt_entry.specs.declared.key.Key.{Key}
 use Rattle.ddt_entry.specs.declared.entry.Home.{Home}
-use Rattle.pool_model.specs.WorkedFacts.{RefusedFiles, EdgeFile, ReadFiles, Limits, Digests, Needs, Premise, HoldTogether, Contents, Counted, Sorted, one_key, entry}
+use Rattle.pool_model.specs.WorkedFacts.{RefusedFiles, OtherLines, EdgeFile, ReadFiles, Limits, Digests, Needs, Premise, HoldTogether, Contents, Counted, Sorted, one_key, entry}
 
 pub refused_files : RefusedFiles
 unfolding pool_on_literals
 refused_files = search rules
+
+pub other_lines : OtherLines
+other_lines = record {
+  reading = refl;
+  freeing = refl;
+  quota_is = refl;
+  no_quota = refl;
+  off = refl;
+  on = refl;
+  verify = refl;
+  by_age = refl;
+  by_share = refl;
+}
 
 pub edge_file : EdgeFile
 unfolding pool_on_literals
@@ -17,7 +30,7 @@ edge_file = refl
 
 pub read_files : ReadFiles
 unfolding pool_on_literals
-read_files = record { empty = refl; asks = refl; imports = refl; no_write = refl; several = refl }
+read_files = record { empty = refl; skipped = refl; asks = refl; imports = refl; no_write = refl; several = refl }
 
 pub limits : Limits
 unfolding pool_on_literals
@@ -29,9 +42,14 @@ limits = record {
   longer = refl;
   writes = refl;
   one_more = refl;
-  items =
-      refl;
+  items = refl;
   one_item_more = refl;
+  one_group_more = refl;
+  last_end = refl;
+  last_read = refl;
+  one_read_more = refl;
+  read_of_full = refl;
+  free_behind = refl;
 }
 
 pub digests : Digests

@@ -1,5 +1,5 @@
 -- Worked examples beside the runs: files that are refused, digests, room, the premise on digests, and pools that hold together.
-use Rattle.std.specs.Prelude.{◌≡◌, ℕ, ◌^◌, List, [], ◌∷◌, ◌++◌, length, replicate, codes, Option, Ok, Err, Some, None, ◌==◌, if◌then◌else◌}
+use Rattle.std.specs.Prelude.{◌≡◌, ℕ, ◌^◌, true, false, List, [], ◌∷◌, ◌++◌, length, replicate, codes, Ok, Err, Some, None, ◌==◌, if◌then◌else◌}
 use Rattle.std.specs.List.{AllByRecursion}
 use Rattle.hex.specs.Hex.{encode_lower}
 use Rattle.sha2.specs.Sha256.{sha256}
@@ -9,86 +9,132 @@ use Rattle.ddt_entry.specs.declared.entry.Entry.{Entry}
 use Rattle.ddt_entry.specs.declared.entry.Change.TheVariants as changes
 use Rattle.pool_model.specs.declared.answers.WriteAnswer.TheVariants as written
 use Rattle.pool_model.specs.declared.commands.Mode.TheVariants.{Off, On, Verify}
-use Rattle.pool_model.specs.declared.notes.BadKind.TheVariants.{Form}
+use Rattle.pool_model.specs.declared.notes.BadKind.{BadKind}
+use Rattle.pool_model.specs.declared.notes.BadKind.TheVariants.{Form, Range, Many, Open}
+use Rattle.pool_model.specs.declared.commands.PruneRule.TheVariants.{Age, Share}
 use Rattle.pool_model.specs.Pool.{Pool, Pointer, Mark, plain, tracked, loose, empty_pool, IsContent, IsSound, IsWellFormed}
 use Rattle.pool_model.specs.Stats.{stats_of}
 use Rattle.pool_model.specs.Table.{empty_table, IsTable, Matches}
-use Rattle.pool_model.specs.Plain.{Task, Part, Told, write, read, free, stat, «import», to_write}
+use Rattle.pool_model.specs.Plain.{Part, Told, write, read, free, stat, «import», to_write}
 use Rattle.pool_model.specs.Space.{need, writes_in, changes_in}
 use Rattle.pool_model.specs.Group.{Standing}
 use Rattle.pool_model.specs.Clash.{NoClash}
-use Rattle.pool_model.specs.File.{OpenGroup, file_limit, file_of, lawful_block, read_behind}
-use Rattle.pool_model.specs.Worked.{rules_by, steps_by, new_pool, lanes_item, mode_item, a, b, c, task, new, hit, lane_note, group_note, settings_note}
+use Rattle.pool_model.specs.File.{Progress, file_limit, file_of, each, does, reads, frees, stands, item_line, step_line, block_fits, read_line, is_too_many}
+use Rattle.pool_model.specs.Worked.{rules_by, steps_by, new_pool, lanes_item, mode_item, quota_item, prune_item, a, b, c, task, new, hit, lane_note, group_note, settings_note}
 use Rattle.pool_model.specs.WorkedTurns.{spoilt}
 
--- files that aren't of the form: without the last line feed, with CR, in capitals, with another letter, with another digit, with an
--- odd digit, without a digit, out of a range, with a number that begins with 0, with other words, with a line too many, of another lane,
--- with two spaces, with a group that isn't ended or that stands in another, with an `end` or a write and no group, and with an empty line
-abbrev pub refused_files : List (List ℕ)
-refused_files =
-    codes "group 1000\n0 write 1 61\nend\nstat"
-    ∷ codes "group 1000\r\n0 write 1 61\r\nend\r\nstat\r\n"
-    ∷ codes "group 1000\n0 write 1 6A\nend\nstat\n"
-    ∷ codes "group 1000\n0 write 1 6g\nend\nstat\n"
-    ∷ codes "group 1000\n0 write : 61\nend\nstat\n"
-    ∷ codes "group 1000\n0 write / 61\nend\nstat\n"
-    ∷ codes "group 1000\n0 write 1 616\nend\nstat\n"
-    ∷ codes "group 1000\n0 write 1 \nend\nstat\n"
-    ∷ codes "group 1000\n0 write 65536 61\nend\nstat\n"
-    ∷ codes "group 1099511627776\n0 write 1 61\nend\nstat\n"
-    ∷ codes "group 1000\n0 write 01 61\nend\nstat\n"
-    ∷ codes "group 01000\n0 write 1 61\nend\nstat\n"
-    ∷ codes "groups 1000\n0 write 1 61\nend\nstat\n"
-    ∷ codes "group\n0 write 1 61\nend\nstat\n"
-    ∷ codes "group 1000 1000\n0 write 1 61\nend\nstat\n"
-    ∷ codes "group 1000\n0 write 1 61\nstat\n"
-    ∷ codes "group 1000\n0 write 1 61\nend\nstat\n\n"
-    ∷ codes "group 1000\n1 write 1 61\nend\nstat\n"
-    ∷ codes "group 1000\n0  write 1 61\nend\nstat\n"
-    ∷ codes "group 1000\n0 write 1 61\n"
-    ∷ codes "group 1000\n"
-    ∷ codes "group 1000\ngroup 1000\nend\nend\n"
-    ∷ codes "group 1000\nend\nend\n"
-    ∷ codes "end\n"
-    ∷ codes "stat\n0 write 1 61\n"
-    ∷ codes "stat\nimports\n"
-    ∷ codes "\n"
+-- a bad file, the number of its first bad line, and what is wrong with it
+pub record Row : Type 0 where
+  pub file : List ℕ
+  pub line : ℕ
+  pub kind : BadKind
+
+abbrev pub row : (file : List ℕ) (line : ℕ) (kind : BadKind) → Row
+row file line kind = record { file = file; line = line; kind = kind }
+
+-- each word of a write misspelled, out of its range or missing, and the same of a group's moment; lines that may not stand where they are;
+-- two bad lines; numbers of any length; a block as one byte so many times; and groups that aren't ended, where the last line may have a
+-- line feed or not, be empty, or be a comment
+abbrev pub bad_rows : List Row
+bad_rows =
+    row (codes "hello\n") 1 Form
+    ∷ row (codes "group 1\n0 write 1 6\nend\n") 2 Form
+    ∷ row (codes "group 1\n0 write 1 6g\nend\n") 2 Form
+    ∷ row (codes "group 1\n0 write : 61\nend\n") 2 Form
+    ∷ row (codes "group 1\n0 write / 61\nend\n") 2 Form
+    ∷ row (codes "group 1\n0 write 1 \nend\n") 2 Form
+    ∷ row (codes "group 1\n0 write 01 61\nend\n") 2 Form
+    ∷ row (codes "group 1\n0  write 1 61\nend\n") 2 Form
+    ∷ row (codes "group 1\n0 write 65536 61\nend\n") 2 Range
+    ∷ row (codes "group 1\n0 write 65536 6\nend\n") 2 Form
+    ∷ row (codes "group 1\n0 write 99999999999999999999999999999999999999999999999 61\nend\n") 2 Range
+    ∷ row (codes "group 1\n0 write 1 61*0\nend\n") 2 Range
+    ∷ row (codes "group 1\n0 write 1 61*4097\nend\n") 2 Range
+    ∷ row (codes "group 1\n0 write 1 61*99999999999999999999999999999999999999999\nend\n") 2 Range
+    ∷ row (codes "group 1\n0 write 1 61*00\nend\n") 2 Form
+    ∷ row (codes "group 1\n0 write 1 6162*2\nend\n") 2 Form
+    ∷ row (codes "group 1099511627776\nend\n") 1 Range
+    ∷ row (codes "group 01\nend\n") 1 Form
+    ∷ row (codes "groups 1\nend\n") 1 Form
+    ∷ row (codes "group\nend\n") 1 Form
+    ∷ row (codes "group 1 1\nend\n") 1 Form
+    ∷ row (codes "stat\r\n") 1 Form
+    ∷ row (codes "stat\n\n# a line\nstat \n") 4 Form
+    ∷ row (codes "stat\nend\n") 2 Form
+    ∷ row (codes "stat\n0 write 1 61\n") 2 Form
+    ∷ row (codes "group 1\nend\nend\n") 3 Form
+    ∷ row (codes "group 1\ngroup 2\nend\n") 2 Form
+    ∷ row (codes "group 1\n0 write 1 61\nstat\n") 3 Form
+    ∷ row (codes "group 1\n0 write 65536 61\nhello\n") 2 Range
+    ∷ row (codes "hello\ngroup 1099511627776\n") 1 Form
+    ∷ row (codes "group 1") 2 Open
+    ∷ row (codes "group 1\n") 2 Open
+    ∷ row (codes "group 1\n\n") 3 Open
+    ∷ row (codes "group 1\n0 write 1 61\n# a line") 4 Open
     ∷ []
 
 abbrev pub RefusedFiles : Type 0
-RefusedFiles = AllByRecursion (λ file. file_of file ≡ Err (record { line = 0; kind = Form })) refused_files
+RefusedFiles = AllByRecursion (λ r. file_of r.file ≡ Err (record { line = r.line; kind = r.kind })) bad_rows
 
--- the largest moment and slot, a slot 0, and hex digits of each kind
+-- what the lines say that aren't run yet
+pub record OtherLines : Type 0 where
+  pub reading : step_line (codes "15" ∷ codes "read" ∷ codes "65535" ∷ []) ≡ Some (does 15 65535 reads)
+  pub freeing : step_line (codes "1" ∷ codes "free" ∷ codes "0" ∷ []) ≡ Some (does 1 0 frees)
+  pub quota_is : item_line (codes "quota" ∷ codes "256" ∷ []) ≡ Some (stands (quota_item (Some 256)))
+  pub no_quota : item_line (codes "quota" ∷ codes "none" ∷ []) ≡ Some (stands (quota_item None))
+  pub off : item_line (codes "mode" ∷ codes "3" ∷ codes "off" ∷ []) ≡ Some (stands (mode_item 3 Off))
+  pub on : item_line (codes "mode" ∷ codes "3" ∷ codes "on" ∷ []) ≡ Some (stands (mode_item 3 On))
+  pub verify : item_line (codes "mode" ∷ codes "3" ∷ codes "verify" ∷ []) ≡ Some (stands (mode_item 3 Verify))
+  pub by_age : item_line (codes "prune" ∷ codes "9" ∷ codes "age" ∷ codes "1" ∷ []) ≡ Some (stands (prune_item 9 (Age 1)))
+  pub by_share : item_line (codes "prune" ∷ codes "9" ∷ codes "share" ∷ codes "1" ∷ []) ≡ Some (stands (prune_item 9 (Share 1)))
+
+-- the largest moment and slot, a slot 0, hex digits of each kind in either case, and a byte repeated
 abbrev pub EdgeFile : Type 0
-EdgeFile = file_of (codes "group 1099511627775\n0 write 65535 00ff\n0 write 0 a9\nend\nstat\n")
-    ≡ Ok (lanes_item 1099511627775 (task 0 65535 (write (0 ∷ 255 ∷ [])) ∷ task 0 0 (write (169 ∷ [])) ∷ []) ∷ stat ∷ [])
+EdgeFile = file_of (codes "group 1099511627775\n0 write 65535 00fF\n0 write 0 A9\n0 write 7 0a*3\nend\nstat")
+    ≡ Ok (lanes_item 1099511627775
+    (task 0 65535 (write (0 ∷ 255 ∷ [])) ∷ task 0 0 (write (169 ∷ [])) ∷ task 0 7 (write (10 ∷ 10 ∷ 10 ∷ [])) ∷ []) ∷ stat ∷ [])
 
--- files of no item, of one, and of several, an empty group among them
+-- files of no item, of one, and of several, an empty group among them, with lines that are skipped
 pub record ReadFiles : Type 0 where
   pub empty : file_of [] ≡ Ok []
+  pub skipped : file_of (codes "\n#\n# stat\n\n") ≡ Ok []
   pub asks : file_of (codes "stat\n") ≡ Ok (stat ∷ [])
-  pub imports : file_of (codes "import\n") ≡ Ok («import» ∷ [])
+  pub imports : file_of (codes "import") ≡ Ok («import» ∷ [])
   pub no_write : file_of (codes "group 5\nend\n") ≡ Ok (lanes_item 5 [] ∷ [])
-  pub several : file_of (codes "stat\ngroup 9\n0 write 2 61\n0 write 1 62\nend\nimport\ngroup 8\n0 write 3 63\nend\n")
+  pub several : file_of (codes "stat\ngroup 9\n0 write 2 61\n\n0 write 1 62\nend\n#\nimport\ngroup 8\n0 write 3 63\nend\n")
       ≡ Ok (stat ∷ lanes_item 9 (task 0 2 (write a) ∷ task 0 1 (write b) ∷ []) ∷ «import» ∷ lanes_item 8 (task 0 3 (write c) ∷ []) ∷ [])
 
--- a group at moment 0 whose `end` was not read yet
-abbrev pub open_group : (tasks : List Task) → Option OpenGroup
-open_group tasks = Some (record { moment = 0; tasks = tasks })
+-- so many items, a group at moment 0 of which `end` was not read yet with so many writes, and so many reads
+abbrev pub with_group_of : (items tasks read_before : ℕ) → Progress
+with_group_of items tasks read_before = record {
+  lines = 0;
+  parts = replicate items stat;
+  group = Some (record { moment = 0; tasks = replicate tasks (task 0 1 (write a)) });
+  reads = read_before;
+}
 
--- the longest file, how many lanes and buckets there are, the longest block and one longer, the most writes and one more, the most items
--- and one more
+abbrev pub without_group : (items : ℕ) → Progress
+without_group items = record { lines = 0; parts = replicate items stat; group = None; reads = 0 }
+
+-- the longest file, how many lanes and buckets there are, the longest block and one longer, the most writes, items and reads and one more
 pub record Limits : Type 0 where
-  pub longest_file : file_limit ≡ 2 ^ 20
+  pub longest_file : file_limit ≡ 2 ^ 26
   pub sixteen : length empty_pool.modes ≡ 16
   pub powers : length (stats_of empty_pool).buckets ≡ 21
-  pub block : lawful_block (Ok (replicate 4096 97)) ≡ Some (replicate 4096 97)
-  pub longer : lawful_block (Ok (replicate 4097 97)) ≡ None
-  pub writes : read_behind [] (open_group (replicate 999 (task 0 1 (write a)))) (codes "0 write 1 61")
-      ≡ Some (record { parts = []; group = open_group (replicate 1000 (task 0 1 (write a))) })
-  pub one_more : read_behind [] (open_group (replicate 1000 (task 0 1 (write a)))) (codes "0 write 1 61") ≡ None
-  pub items : read_behind (replicate 9999 stat) None (codes "stat") ≡ Some (record { parts = replicate 10000 stat; group = None })
-  pub one_item_more : read_behind (replicate 10000 stat) None (codes "stat") ≡ None
+  pub block : block_fits (each (replicate 4096 97)) ≡ true
+  pub longer : block_fits (each (replicate 4097 97)) ≡ false
+  pub writes : read_line (with_group_of 0 65535 0) (codes "0 write 1 61") ≡ Ok (with_group_of 0 65536 0)
+  pub one_more : read_line (with_group_of 0 65536 0) (codes "0 write 1 61") ≡ Err Many
+  pub items : read_line (without_group 9999) (codes "stat") ≡ Ok (without_group 10000)
+  pub one_item_more : read_line (without_group 10000) (codes "stat") ≡ Err Many
+  pub one_group_more : read_line (without_group 10000) (codes "group 1") ≡ Err Many
+  pub last_end : read_line (with_group_of 9999 65536 0) (codes "end") ≡ Ok (record (without_group 0) {
+    parts = replicate 9999 stat ++ lanes_item 0 (replicate 65536 (task 0 1 (write a))) ∷ [];
+  })
+  pub last_read : is_too_many (with_group_of 0 0 262143) (does 0 1 reads) ≡ false
+  pub one_read_more : is_too_many (with_group_of 0 0 262144) (does 0 1 reads) ≡ true
+  pub read_of_full : is_too_many (with_group_of 0 65536 0) (does 0 1 reads) ≡ true
+  pub free_behind : is_too_many (with_group_of 0 0 262144) (does 0 1 frees) ≡ false
 
 -- published digests
 pub record Digests : Type 0 where

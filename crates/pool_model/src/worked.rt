@@ -2,7 +2,7 @@ ghost use Rattle.pool_model.specs.WorkedRuns.{OneWrite, SharedWrite, TakenSlot, 
 ghost use Rattle.pool_model.specs.WorkedTurns.{WaitingHome, TwoLanes, FailedReads, SpoiltBlock, NoRoom, CutGroup};
 ghost use Rattle.pool_model.specs.WorkedTables.{OneChange, SwapByAge, Flushed, GoneKey, FlushedInParts, LimitBefore, SwapWaits, SwapByKeys, LongFlush};
 ghost use Rattle.pool_model.specs.WorkedLogs.{ChangedTwice, KeptWhole, ChangedAgain, Exchanged};
-ghost use Rattle.pool_model.specs.WorkedFacts.{RefusedFiles, EdgeFile, ReadFiles, Limits, Digests, Needs, Premise, HoldTogether, Contents, Counted, Sorted};
+ghost use Rattle.pool_model.specs.WorkedFacts.{RefusedFiles, OtherLines, EdgeFile, ReadFiles, Limits, Digests, Needs, Premise, HoldTogether, Contents, Counted, Sorted};
 ghost use Rattle.pool_model.specs.WorkedLeft.{LaterHit, TakenUp, NewMoment, NoChange, QuotaFirst, OffLane, OtherLaneOff, ReadsNothing, WaitsAgain, BytesKept, OldestFirst, PlainStays, QuotaByKeys, CutBlock, Ordered, FreePlaces, OtherNotes};
 
 /// Worked runs: for each the items, the notes that a session makes of them, and the bytes of the report.
@@ -74,6 +74,7 @@ pub(crate) fn worked_logs()
 /// pools and tables hold together.
 pub(crate) fn worked_facts()
     ensures refused_files { RefusedFiles }
+    ensures other_lines { OtherLines }
     ensures edge_file { EdgeFile }
     ensures read_files { ReadFiles }
     ensures limits { Limits }

@@ -1,9 +1,10 @@
-use Rattle.pool_model.proofs.Facts.{refused_files, edge_file, read_files, limits, digests, needs, premise, hold_together, contents, counted, sorted}
+use Rattle.pool_model.proofs.Facts.{refused_files, other_lines, edge_file, read_files, limits, digests, needs, premise, hold_together, contents, counted, sorted}
 use Rattle.pool_model.proofs.worked.worked_facts.Goals as goal
 
 pub returns : goal.returns
 returns c = record {
   refused_files = refused_files;
+  other_lines = other_lines;
   edge_file = edge_file;
   read_files = read_files;
   limits = limits;

@@ -1,4 +1,4 @@
-use Rattle.std.proofs.Common.{◌≡◌, ℕ, ◌^◌, ◌<◌, ◌≤◌, true, List, [], ◌∷◌, length, None, Err, refl, ⊎_elim, arith}
+use Rattle.std.proofs.Common.{◌≡◌, ℕ, ◌^◌, ◌<◌, ◌≤◌, true, List, [], ◌∷◌, length, Err, refl, sym, ⊎_elim, arith}
 use Rattle.std.specs.List.{list_all}
 use Rattle.std.specs.Str.{IsUtf8}
 use Rattle.std.specs.Str.Parse.{digits_value, ParsesUnsigned}
@@ -7,8 +7,10 @@ use Rattle.std.proofs.lemmas.Bool.Decides.{nat_tests}
 use Rattle.std.proofs.lemmas.Fmt.{IsAscii-from_digits}
 use Rattle.std.proofs.lemmas.Str.{IsUtf8-from_ascii}
 use Rattle.std.proofs.lemmas.Str.Parse.{IsDigitsTest, IsNumeralModel, numerals_by_value, parse_digits}
+use Rattle.pool_model.specs.declared.notes.BadKind.TheVariants.{Range}
 use Rattle.pool_model.specs.File.{is_digit, is_number, number_in}
-use Rattle.cmd_file.proofs.words.number_in.Goals as goal
+use Rattle.cmd_file.specs.Words.{up_to}
+use Rattle.cmd_file.proofs.words.number_to.Goals as goal
 
 abbrev IsDigits : List ℕ → Type 0
 IsDigits word = list_all is_digit word ≡ true
@@ -35,17 +37,17 @@ too_large {E} word error h refused =
     let parsed = parse_digits digits {E = E} 64 word (Err error) refused (has_digits word h).0 in
     ⊎_elim (λ small. absurd (parsed ((has_digits word h).1, small))) (λ large. large) (cases_lt (digits_value 10 word) (2 ^ 64))
 
-past_limit : (limit : ℕ) (word : List ℕ) → limit ≤ digits_value 10 word → None ≡ number_in limit word
-past_limit limit word h = grind (arith, nat_tests)
+past_most : (most : ℕ) (word : List ℕ) → is_number word ≡ true → most < digits_value 10 word → up_to most (number_in word) ≡ Err Range
+past_most most word number large = grind (arith, nat_tests)
 
-pub returns-in_default-clause-number : goal.returns-in_default-clause-number
-returns-in_default-clause-number c =
+pub returns-in_default : goal.returns-in_default
+returns-in_default c =
     let number : is_number c.args.word.now ≡ true = grind arith in
     absurd (c.in_default.ensures.cases.0 (is_text c.args.word.now number))
 
-pub returns-in_default-parse-clause-number : goal.returns-in_default-parse-clause-number
-returns-in_default-parse-clause-number c =
+pub returns-in_default-parse : goal.returns-in_default-parse
+returns-in_default-parse c =
     let number : is_number c.args.word.now ≡ true = grind arith in
     let same : c.in-Ok.text.now ≡ c.args.word.now = c.in-Ok.ensures.cases.0 in
     let large = too_large c.args.word.now c.in_default-parse.field-0 number (rw same at c.in_default-parse.ensures.value.0) in
-    past_limit c.args.limit c.args.word.now (omega arith)
+    sym (past_most c.args.most c.args.word.now number (let fits = c.ranges.most.fits in omega arith))
