@@ -8,11 +8,12 @@
 //! Each other status says why it came and what it leaves. `inspect` is for the words that run no file.
 //!
 //! The pool is opened first (`opening`): imported (`finding`), or made where there is none (`making`). Then
-//! the items are done one after another (`running`), each by `item`: a group (`group_item`) runs over the
-//! pool in memory, is synced, and only then reported; a `stat` or an `import` is a `plain_item`. Proofs go the
-//! same way: `specs/StageItems.antt` says what one item comes to, `specs/StageGoing.antt` what the items so far have,
-//! and `specs/Stopping.antt` where a session ended that didn't do them all. Nothing here speaks of pages or bytes
-//! of the image: that is `txg_sync`'s and `pool_import`'s.
+//! the items are done one after another (`running`), each by `item`: a group (`group_item`) is closed over the
+//! pool in memory, which goes by its kind (`closing`, `pruning`), is synced, and only then reported; a `stat` or
+//! an `import` is a `plain_item`. Proofs go the same way: `specs/StageClosing.antt` says what each kind of group has
+//! to bring, `specs/StageItems.antt` what one item comes to, `specs/StageGoing.antt` what the items so far have, and
+//! `specs/Stopping.antt` where a session ended that didn't do them all. Nothing here speaks of pages or bytes of the
+//! image: that is `txg_sync`'s and `pool_import`'s.
 #![tactic(auto)]
 
 mod closing;
