@@ -7,7 +7,7 @@ ghost use Rattle.ddt_entry.specs.declared.entry.Home.{Home};
 ghost use Rattle.ddt_entry.specs.declared.key.Key.{Key as AKey};
 ghost use Rattle.pool_model.specs.Mirrors.{stored_of};
 ghost use Rattle.pool_import.specs.Together.{follows, rises};
-ghost use Rattle.pool_model.specs.Table.{AreChangesRising, IsTable, change_at, found, sync_table};
+ghost use Rattle.pool_model.specs.Table.{IsTable, change_at, found, sync_table};
 ghost use Rattle.slot_table.specs.Slots.{AreRisingSlots};
 ghost use Rattle.table_state.specs.Flat.{IsWithin, IsChangeWithin};
 ghost use Rattle.table_state.specs.Sealed.{ChangesSlotWithin};
@@ -55,9 +55,6 @@ pub(crate) fn is_in_range(alloc: Global, pool: &Pool, closed: &Closed) -> Result
         return Ok(false);
     };
     if !counts_within(alloc, pool, closed)? {
-        return Ok(false);
-    }
-    if !changes_rise(closed.changes.as_slice()) {
         return Ok(false);
     }
     if !changes_within(closed.changes.as_slice(), sectors, group) {
@@ -117,13 +114,6 @@ fn table_counts(
         return Ok(false);
     }
     Ok(changes_count(changes, most))
-}
-
-/// Whether the changes rise by key.
-fn changes_rise(changes: &[Change]) -> bool
-    ensures { result ≡ true → AreChangesRising changes.now }
-{
-    are_rising(changes)
 }
 
 /// Whether each change's key comes before the next one's.

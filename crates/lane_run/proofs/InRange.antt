@@ -175,7 +175,6 @@ module _ (held : Held) (places : List ℕ) (start i : ℕ) (live : Live) (sound 
 
   pub in_range : IsInRange held (group_here held live)
   in_range = record {
-    rising = rising;
     changes =
         all_from Fits (IsChangeWithin held.sectors (held.group + 1)) (λ change fits. within_one change fits.0)
         (changes_here held live) all_fit;

@@ -12,7 +12,7 @@ use Rattle.pool_model.specs.declared.closed.Closed.{Closed}
 use Rattle.pool_model.specs.declared.closed.SlotChange.{SlotChange}
 use Rattle.pool_model.specs.Pool.{Pool, IsWellFormed}
 use Rattle.pool_model.specs.Mirrors.{Stored, stored_of}
-use Rattle.pool_model.specs.Table.{TableState, AreChangesRising, Matches, found, sync_table, waiting_in}
+use Rattle.pool_model.specs.Table.{TableState, Matches, found, sync_table, waiting_in}
 use Rattle.pool_model.specs.Logs.{logs_after}
 use Rattle.pool_model.specs.Replaying.{LoggedTable, sync_logged}
 use Rattle.pool_model.specs.Group.{Standing}
@@ -75,9 +75,8 @@ records_after held closed = records_in (slots_after closed.slots held.slots) (ke
 abbrev pub pages_of : List (List (List ℕ)) → ℕ
 pages_of lists = sum_by (λ records. pages_for (length records)) lists
 
--- what a group leaves is in its ranges, for the next group of this pool, its changes by key; no home counts more pointers than there are slots
+-- what a group leaves is in its ranges, for the next group of this pool; no home counts more pointers than there are slots
 pub record IsInRange (held : Held) (closed : PlainClosed) : Type 0 where
-  pub rising : AreChangesRising closed.log
   pub changes : AllByRecursion (IsChangeWithin held.sectors (held.group + 1)) closed.log
   pub lengths : AllByRecursion HasLength closed.log
   pub slots : AllByRecursion (ChangesSlotWithin held.sectors (held.group + 1)) closed.slots

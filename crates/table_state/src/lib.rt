@@ -41,4 +41,4 @@ pub use pool::Pool;
 pub use seal_form::{IMAGE_VERSION, LAST_GROUP, MOST_SECTORS, is_formed, new_seal};
 pub use setting::{byte_of, mode_of};
 pub use slot_record::{SLOT_RECORD_BYTES, key_fits, read_slot, slot_fits, write_slot};
-pub use table::DedupTable;
+pub use table::{DedupTable, found_in};

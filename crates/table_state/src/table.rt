@@ -1,6 +1,7 @@
 ghost use Rattle.std.specs.Prelude.{◌≡◌, ◌≤◌, ◌+◌, ◌/◌, ◌^◌, IfOk};
 ghost use Rattle.pool_model.specs.Logs.{empty_logs};
 ghost use Rattle.pool_model.specs.Table.{empty_table, entries_found, flush_limit, found};
+ghost use Rattle.table_state.specs.Kept.{kept_in};
 
 use ddt_class::Classes;
 use ddt_entry::{Entry, Home, Key};
@@ -30,6 +31,15 @@ impl Model for DedupTable {
     ghost view = { λ table. kept_in table.classes table.logs table.age };
 }
 
+/// The home of a key in a table of these stored homes and logs. Takes no memory.
+pub fn found_in(classes: &Classes, logs: &LogPair, key: &Key) -> Option<Home>
+    ensures { result ≡ found (kept_in classes.now logs.now 0).table key.now }
+{
+    let stored = classes.home_of(key);
+    let flushing = found_over(stored, logs.get(1, key).copied());
+    found_over(flushing, logs.get(0, key).copied())
+}
+
 impl DedupTable {
     /// The table of a new pool. Takes no memory.
     pub fn new(alloc: Global) -> DedupTable
@@ -46,9 +56,7 @@ impl DedupTable {
     pub fn found(&self, key: &Key) -> Option<Home>
         ensures { result ≡ found self.now.table key.now }
     {
-        let stored = self.classes.home_of(key);
-        let flushing = found_over(stored, self.logs.get(1, key).copied());
-        found_over(flushing, self.logs.get(0, key).copied())
+        found_in(&self.classes, &self.logs, key)
     }
 
     /// All homes that the table finds, sorted by key. The error is want of memory.

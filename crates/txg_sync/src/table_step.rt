@@ -4,12 +4,12 @@
 ghost use Rattle.std.specs.Prelude.{◌≡◌, ◌<◌, [], List, fold, OnOk};
 ghost use Rattle.ddt_entry.specs.declared.entry.Entry.{Entry as Stored};
 ghost use Rattle.log_flush.specs.Flushing.{IsSecondStep};
-ghost use Rattle.log_pair.specs.Paired.{with_change, as_table};
-ghost use Rattle.pool_model.specs.Table.{home_in, is_due};
+ghost use Rattle.log_pair.specs.Paired.{as_table};
+ghost use Rattle.pool_model.specs.Table.{IsTable, counted_homes, home_in, is_due};
 ghost use Rattle.pool_model.specs.Replaying.{sync_logged};
 ghost use Rattle.table_state.specs.Kept.{kept_in};
-ghost use Rattle.pool_stats.specs.Totals.{count_in};
-ghost use Rattle.txg_sync.specs.TableSteps.{counted_on, third_step};
+ghost use Rattle.pool_stats.specs.Totals.{count_in, totals_in};
+ghost use Rattle.txg_sync.specs.TableSteps.{counted_change, third_step};
 
 use ddt_class::Classes;
 use ddt_entry::{Change, Home, key_of};
@@ -20,7 +20,7 @@ use page_tree::NoPages;
 use plain_table::{SWAP_AGE, SWAP_KEYS};
 use pool_stats::RunningTotals;
 use std::alloc::{AllocError, Global};
-use table_state::DedupTable;
+use table_state::{DedupTable, found_in};
 
 /// The table after a group with these changes, in the place of the one before, and the sums over its counted homes. No
 /// sector is read, since the table is held in memory. The error is want of memory; both are then given up.
@@ -32,11 +32,11 @@ pub fn sync_table<D: Disk>(
     changes: &[Change],
 ) -> Result<(), AllocError>
     ensures kept { OnOk result (table.new ≡ sync_logged changes.now table.old) }
-    ensures totals { OnOk result (totals.new ≡ fold (counted_on table.old.table) totals.old changes.now) }
+    ensures totals { IsTable table.old.table → totals.old ≡ totals_in (counted_homes table.old.table)
+        → OnOk result (totals.new ≡ totals_in (counted_homes table.new.table)) }
 {
-    count_changes(table, totals, changes);
     let limit = table.flush_limit();
-    append_all(&mut table.logs, disk, changes)?;
+    append_all(&table.classes, &mut table.logs, totals, disk, changes)?;
     flush_some(alloc, &mut table.classes, &mut table.logs, disk, limit)?;
     table.age = swap_due(&mut table.logs, table.age);
     Ok(())
@@ -62,32 +62,40 @@ fn count_by(change: &Change) -> u64
     }
 }
 
-/// The sums over the counted homes where this change comes to the table.
-fn count_change(table: &DedupTable, totals: &mut RunningTotals, change: &Change)
-    ensures { totals.new ≡ counted_on table.now.table totals.old change.now }
+/// One change: the count of its key changes, and it goes to the active log. The error is want of memory.
+fn append_one<D: Disk>(
+    classes: &Classes,
+    logs: &mut LogPair,
+    totals: &mut RunningTotals,
+    disk: &D,
+    change: &Change,
+) -> Result<(), AllocError>
+    ensures { OnOk result (record { pair = logs.new; totals = totals.new }
+        ≡ counted_change classes.now (record { pair = logs.old; totals = totals.old }) change.now) }
 {
     let key = key_of(change);
-    totals.change(key.len, count_at(table.found(&key)), count_by(change));
-}
-
-/// The sums over the counted homes where these changes come to the table.
-fn count_changes(table: &DedupTable, totals: &mut RunningTotals, changes: &[Change])
-    ensures { totals.new ≡ fold (counted_on table.now.table) totals.old changes.now }
-{
-    'changes: for change in changes {
-        count_change(table, totals, change);
-    }
+    let before = count_at(found_in(classes, logs, &key));
+    totals.change(key.len, before, count_by(change));
+    let mut reader = NoPages::new();
+    let Ok(()) = logs.append(disk, &mut reader, *change) else {
+        return Err(AllocError);
+    };
+    Ok(())
 }
 
 /// First step: each change goes to the active log, and its key leaves the flushing one. The error is want of memory.
-fn append_all<D: Disk>(logs: &mut LogPair, disk: &D, changes: &[Change]) -> Result<(), AllocError>
-    ensures { OnOk result (logs.new ≡ fold (λ pair change. with_change change pair) logs.old changes.now) }
+fn append_all<D: Disk>(
+    classes: &Classes,
+    logs: &mut LogPair,
+    totals: &mut RunningTotals,
+    disk: &D,
+    changes: &[Change],
+) -> Result<(), AllocError>
+    ensures { OnOk result (record { pair = logs.new; totals = totals.new }
+        ≡ fold (counted_change classes.now) (record { pair = logs.old; totals = totals.old }) changes.now) }
 {
-    let mut reader = NoPages::new();
     'changes: for change in changes {
-        let Ok(()) = logs.append(disk, &mut reader, *change) else {
-            return Err(AllocError);
-        };
+        append_one(classes, logs, totals, disk, change)?;
     }
     Ok(())
 }

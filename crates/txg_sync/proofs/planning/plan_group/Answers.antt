@@ -1,12 +1,12 @@
 -- The pool that is left is the one after the group, and the parts of the plan are its own.
-use Rattle.std.proofs.Common.{◌≡◌, ◌∙◌, ◌+◌, ℕ, Bool, false, List, [], length, map, fold, replicate, refl, sym, ap, subst, arith}
+use Rattle.std.proofs.Common.{◌≡◌, ◌∙◌, ◌+◌, ℕ, Bool, false, List, [], length, map, replicate, refl, sym, ap, subst, arith}
 use Rattle.std.specs.Prelude.{nat_lt}
 use Rattle.std.specs.List.{AllByRecursion}
 use Rattle.ddt_entry.specs.Spelling.{IsKeyLength}
 use Rattle.ddt_entry.specs.declared.entry.Entry.{Entry}
 use Rattle.pool_model.specs.Space.{used_sectors}
-use Rattle.pool_model.specs.Replaying.{LoggedTable, sync_logged}
-use Rattle.pool_model.specs.Table.{entries_found, counted_homes}
+use Rattle.pool_model.specs.Replaying.{sync_logged}
+use Rattle.pool_model.specs.Table.{IsTable, entries_found, counted_homes}
 use Rattle.pool_model.specs.Mirrors.{stored_of}
 use Rattle.pool_model.proofs.Lists.{length-filter-le}
 use Rattle.table_state.specs.Closing.{closed_of, kept_of}
@@ -18,11 +18,9 @@ use Rattle.slot_table.specs.declared.slot.SlotRecord.{SlotRecord}
 use Rattle.uber_ring.specs.declared.seal.Seal.{Seal}
 use Rattle.pool_stats.specs.Totals.{totals_in}
 use Rattle.txg_sync.specs.Placing.{AreUsed, ArePlaced}
-use Rattle.txg_sync.specs.TableSteps.{counted_on}
 use Rattle.txg_sync.proofs.FewHomes.{few_homes}
 use Rattle.txg_sync.proofs.Planned.{lengths_after, table_within_after, slot_lengths_after, is_plan}
 use Rattle.txg_sync.proofs.PlannedLimits.{found_small}
-use Rattle.txg_sync.proofs.Totals.{totals_synced}
 use Rattle.txg_sync.proofs.planning.plan_group.Goals as goal
 
 pub chains_of-requires-clause-lengths : goal.chains_of-requires-clause-lengths
@@ -79,12 +77,8 @@ returns-clause-planned g c =
     let keys : c.seal_of-seal.result.homes ≡ length (counted_homes c.sync_table.new.table.table) =
     ap (λ (s : Seal). s.homes) (c.seal_of-seal.ensures.fields []) in
     let totals : c.sync_table.new.totals ≡ totals_in (counted_homes c.sync_table.new.table.table) =
-    c.in_ok-sync_table.ensures.totals
-    ∙ ap (λ l. fold (counted_on c.pool.inside.table.table) c.pool.inside.totals l) c.as_slice-2.ensures
-    ∙ ap (λ (h : Held). fold (counted_on h.table) h.totals c.args.closed.now.changes.items) c.pool.view_is
-    ∙ ap (λ t. fold (counted_on c.args.pool.now.table) t c.args.closed.now.changes.items) c.requires.sound.totals_are
-    ∙ totals_synced c.args.closed.now.changes.items c.args.pool.now.table c.requires.sound.sorted c.requires.range.rising
-    ∙ ap (λ (k : LoggedTable). totals_in (counted_homes k.table)) (sym kept) in
+    c.in_ok-sync_table.ensures.totals (subst (λ (h : Held). IsTable h.table) (sym c.pool.view_is) c.requires.sound.sorted)
+    (subst (λ (h : Held). h.totals ≡ totals_in (counted_homes h.table)) (sym c.pool.view_is) c.requires.sound.totals_are) in
     let few = few_homes c.args.pool.now c.requires.sound contents c.set_slots.new.slots c.sync_table.new.table c.in-Some.parts.items placed
     c.args.closed.now.changes.items kept in
     let used : AreUsed c.args.pool.now.sectors c.in_ok-pages.pages.items c.set_slots.new.slots c.sync_table.new.table.table

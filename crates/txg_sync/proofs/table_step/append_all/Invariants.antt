@@ -1,9 +1,7 @@
-use Rattle.std.proofs.Common.{◌≡◌, drop, fold}
-use Rattle.log_pair.specs.Paired.{Paired, with_change}
-use Rattle.ddt_entry.specs.declared.entry.Change.{Change}
+use Rattle.std.proofs.Common.{◌≡◌, take, fold}
+use Rattle.txg_sync.specs.TableSteps.{counted_as, counted_change}
 use Rattle.txg_sync.proofs.table_step.append_all.Given as goal
 
 abbrev pub invariant-changes : goal.invariant-changes
 invariant-changes g l =
-    fold (λ (pair : Paired) (change : Change). with_change change pair) l.logs (drop l.change-index l.changes)
-    ≡ fold (λ (pair : Paired) (change : Change). with_change change pair) l.fn.logs l.changes
+    counted_as l.logs l.totals ≡ fold (counted_change l.classes) (counted_as l.fn.logs l.fn.totals) (take l.change-index l.changes)
