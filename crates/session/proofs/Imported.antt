@@ -1,5 +1,5 @@
 -- The pool that is imported again over told contents is the one that stood in memory.
-use Rattle.std.proofs.Common.{◌≡◌, ◌∙◌, ℕ, true, Option, Some, None, Err, refl, sym, subst}
+use Rattle.std.proofs.Common.{◌≡◌, ◌∙◌, ◌≤◌, ℕ, true, Option, Some, None, Err, refl, sym, subst}
 use Rattle.std.specs.Prelude.{IfSome, IsErrOf}
 use Rattle.disk_model.specs.Images.{Image}
 use Rattle.disk_model.specs.DiskLaws.{Stays}
@@ -12,11 +12,12 @@ use Rattle.pool_model.specs.declared.faults.SyncFault.TheVariants.{ReadFault, Wr
 use Rattle.pool_model.specs.Run.{first_standing}
 use Rattle.table_state.specs.Flat.{StandsFor, IsDamaged}
 use Rattle.table_state.specs.Pools.{Held, IsHeld}
+use Rattle.table_state.specs.Sound.{IsSound}
 use Rattle.table_state.proofs.Held.{over_held}
 use Rattle.txg_sync.specs.Creating.{Creates}
 use Rattle.session.specs.Faults.{status_of}
 use Rattle.session.specs.Origins.{origin, may_begin}
-use Rattle.session.specs.StageEntries.{IsOver, StandsForTold}
+use Rattle.session.specs.StageEntries.{IsOnDisk, IsOver, StandsForTold}
 use Rattle.session.specs.declared.status.Status.{Status}
 use Rattle.session.proofs.Over.{over_holds}
 
@@ -43,6 +44,16 @@ pub told_stays : (old new : Option Image) (held : Held) → (old ≡ None → ne
     → IfSome old (λ image. (pool : Pool) × (table : TableState) × IsHeld image held pool table) → StandsForTold new held
 told_stays None new held untold stays is = subst (λ (o : Option Image). StandsForTold o held) (sym (untold refl)) tt
 told_stays (Some image) new held untold stays is = subst (λ (o : Option Image). StandsForTold o held) (sym stays) is
+
+-- so a pool that was found is on the disk
+pub found_on_disk : (tag : ℕ) (old new : DiskState) (found : Held) → (old.seen ≡ None → new.seen ≡ None) → Stays old.seen new.seen
+    → IsSound found → found.sectors ≤ new.sectors → (found.tag ≡ tag) × IsFoundOver old.seen found → IsOnDisk new tag found
+found_on_disk tag old new found untold stays sound there given = record {
+  sound = sound;
+  there = there;
+  tag_is = given.0;
+  told = told_stays old.seen new.seen found untold stays given.1;
+}
 
 -- and those of a pool that was created tell the new one
 pub told_created : (old new : Option Image) (sectors : ℕ) (held : Held) → (old ≡ None → new ≡ None) → Creates old new sectors held

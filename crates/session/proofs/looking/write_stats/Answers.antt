@@ -12,6 +12,6 @@ returns-clause-told g c image p table is =
     (λ group quota stats. WritesSo c.write_text.result (stat_text group quota stats) (g.W.Sink.written c.args.out.now)
     (g.W.Sink.written c.write_text.new.out))
     image c.args.pool.now p table
-    c.pool.inside.sealed c.pool.inside.limit c.stats.result is (ap (λ (h : Held). h.group) c.pool.view_is)
+    c.pool.inside.sealed c.pool.inside.limit c.stats-stats.result is (ap (λ (h : Held). h.group) c.pool.view_is)
     (ap (λ (h : Held). h.quota) c.pool.view_is)
-    (c.stats.ensures image p table is) c.write_text.ensures.text
+    (c.stats-stats.ensures image p table is) c.write_text.ensures.text

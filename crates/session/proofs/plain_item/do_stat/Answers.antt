@@ -24,8 +24,8 @@ returns-clause-went g c s over =
     (nothing_new _ keying c.args.pool.now s over c.requires.on_disk.tag_is [] (started _ c.crash_laws.ensures.here.only_now))
     (part_of c.args.item.now) (subst (λ (i : Item). IsPlain (part_of i)) (sym c.requires.is) tt)
     c.tell.result c.write_item.result _ c.tell.ensures c.write_item.ensures
-    (pool_text c.args.item.now c.requires.is c.stats.result c.pool.inside.sealed c.pool.inside.limit s.pool
-    (c.stats.ensures over.image s.pool s.table over.stands.is_held)
+    (pool_text c.args.item.now c.requires.is c.stats-stats.result c.pool.inside.sealed c.pool.inside.limit s.pool
+    (c.stats-stats.ensures over.image s.pool s.table over.stands.is_held)
     (ap (λ (h : Held). h.group) c.pool.view_is ∙ over.stands.is_held.group_is)
     (ap (λ (h : Held). h.quota) c.pool.view_is ∙ over.stands.is_held.quota_is))
     over (over_leaves _ c.args.pool.now s keying.tag over c.requires.on_disk.tag_is)
