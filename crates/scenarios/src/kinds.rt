@@ -101,7 +101,7 @@ fn a_verified_write_shares_no_other_bytes(rt: HostRuntime) -> Result<(), Fail> {
 }
 
 /// The kind, the outcome and the homes taken of a session's note.
-fn noted(alloc: Global, file: &str, at: usize) -> Result<(Kind, Outcome, u64), Fail> {
+fn noted(alloc: Global, file: &str, at: u64) -> Result<(Kind, Outcome, u64), Fail> {
     let mut disk = small_disk(alloc)?;
     let ended = run_file(alloc, &Sha256Key, MAKE, &mut disk, file)?;
     let note = ended
